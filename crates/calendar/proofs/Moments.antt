@@ -63,7 +63,8 @@ moment-is-found t m i =
     ∙ month-is t (record { years = m .year - 1970; left = left }) (m .month) (m .day - 1) (day-found _ _ _ v ∙ ap yearDay (sym days)) (omega (arith, v)) (month-high _ _ _ v) (rw (← year) refl) (rw (← year) (omega (arith, day-high _ _ _ v)))
 
 -- the moment in the year and the month that hold the day of t is the moment of t
-made : (t k m left : ℕ) → k < 137 → total k yearLength + left ≡ t / 86_400 → total m (monthLength (1970 + k)) ≤ left → left < total (suc m) (monthLength (1970 + k)) → IsMoment t (momentAt t (1970 + k) m (left - total m (monthLength (1970 + k)) + 1))
+made : (t k m left : ℕ) → k < 137 → total k yearLength + left ≡ t / 86_400 → total m (monthLength (1970 + k)) ≤ left
+    → left < total (suc m) (monthLength (1970 + k)) → IsMoment t (momentAt t (1970 + k) m (left - total m (monthLength (1970 + k)) + 1))
 unfolding dayNumber total
 made t k m left h year low high =
     let y = 1970 + k in
@@ -162,7 +163,8 @@ module _ (y m d : ℕ) (v : DateExists y m d) where
       (arith, day-low y m d v, day-high y m d v, total-more m (monthLength y), ap (λ k. total k (monthLength y)) last, rw e at (months-fill (y - 1970)), year-begins (y + 1)))
 
 -- the same time on the date of the next day number is 86,400 seconds later
-day-later : (t : ℕ) (m : Moment) → IsMoment t m → (y mo d : ℕ) → DateExists y mo d → dayNumber y mo d ≡ dayOf m + 1 → IsMoment (t + 86_400) (onDate m y mo d)
+day-later : (t : ℕ) (m : Moment) → IsMoment t m → (y mo d : ℕ) → DateExists y mo d → dayNumber y mo d ≡ dayOf m + 1
+    → IsMoment (t + 86_400) (onDate m y mo d)
 day-later t m i y mo d v e =
     record { date = v; weekday = omega arith; hour = i .hour; minute = i .minute; second = i .second; counts = rw e (omega arith) }
 

@@ -69,7 +69,9 @@ unfolding momentOf yearDay
 no-year t h = simp (span-none 137 yearLength (t / 86_400) (rw years-have h))
 
 -- the moment of t is in month m of its year, if left days of that month are over
-pub month-is : (t : ℕ) (a : YearDay) (m left : ℕ) → a ≡ yearDay (t / 86_400) → a .years < 137 → m ≤ 12 → total m (monthLength (1970 + a .years)) + left ≡ a .left → left < monthLength (1970 + a .years) m → given (momentAt t (1970 + a .years) m (left + 1)) ≡ momentOf t
+pub month-is : (t : ℕ) (a : YearDay) (m left : ℕ) → a ≡ yearDay (t / 86_400) → a .years < 137 → m ≤ 12
+    → total m (monthLength (1970 + a .years)) + left ≡ a .left → left < monthLength (1970 + a .years) m
+    → given (momentAt t (1970 + a .years) m (left + 1)) ≡ momentOf t
 unfolding momentOf total
 month-is t a m left e h b f l =
     let y = 1970 + a .years in

@@ -18,7 +18,8 @@ unfolding first total yearLength
 year-start k h = eqb-true _ _ (computed 138 (λ k. eqb (total k yearLength) ((k * 1461 + 1) / 4 - k / 131)) refl k h)
 
 -- the code's year holds the day: before 2100, in 2100, and from 2101 on
-year-holds : (n k q : ℕ) → n < 50038 → k ≡ ((n + q) * 4 + 2) / 1461 → q ≡ n / 47847 → (k < 137) × ((k * 1461 + 1) / 4 ≤ n + k / 131) × (n + suc k / 131 < (suc k * 1461 + 1) / 4)
+year-holds : (n k q : ℕ) → n < 50038 → k ≡ ((n + q) * 4 + 2) / 1461 → q ≡ n / 47847
+    → (k < 137) × ((k * 1461 + 1) / 4 ≤ n + k / 131) × (n + suc k / 131 < (suc k * 1461 + 1) / 4)
 year-holds n k q h e d =
     by-test (ltb n 47847)
     (λ t.
@@ -37,7 +38,8 @@ pub year-begun : (n k q : ℕ) → n < 50038 → k ≡ ((n + q) * 4 + 2) / 1461 
 year-begun n k q h e d = year-holds n k q h e d .1
 
 -- and what the code returns is right
-pub year-found : (n k q left : ℕ) → n < 50038 → k ≡ ((n + q) * 4 + 2) / 1461 → q ≡ n / 47847 → left ≡ n + k / 131 - (k * 1461 + 1) / 4 → record { years = k; left = left } ≡ yearDay n
+pub year-found : (n k q left : ℕ) → n < 50038 → k ≡ ((n + q) * 4 + 2) / 1461 → q ≡ n / 47847 → left ≡ n + k / 131 - (k * 1461 + 1) / 4
+    → record { years = k; left = left } ≡ yearDay n
 year-found n k q left h e d l =
     let v = year-holds n k q h e d in
     let this = year-start k (lt-trans (v .0) (lit< tt)) in

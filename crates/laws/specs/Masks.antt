@@ -1,0 +1,121 @@
+-- Masks: numbers whose bits say at which places a test holds.
+use mathlib.Core.Path.{_≡_, refl, ap, _∙_}
+use mathlib.Core.Bool.{Bool, true, false, _&&_}
+use mathlib.Core.Logic.{⊎-elim}
+use Prim.Native.Nat.{ℕ, zero, suc, _+_, _*_, _/_, _%_, _^_, _<_, _≤_}
+use native.Mathlib.Nat.{zero-add, add-comm, zero-mul, one-mul, pow-suc, mod-eq-of-lt, div-eq-of-lt, le-refl, le-antisymm, lt-of-lt-of-le, le-of-suc-le-suc, not-suc-le-zero, eq-or-lt-of-le}
+use native.Mathlib.Numerals.{add-one, one-add}
+use native.Mathlib.Omega.{arith}
+use lib.Dec.{eqb, ltb}
+use lib.Pow.{high, shr-shr, pow-lt, pow-mono}
+use borrow.Author.Tests.{ltb-true, ltb-false}
+use Rattle.laws.specs.Tests.{by-test}
+
+-- 1 for true, 0 for false
+abbrev pub bit : Bool → ℕ
+bit true = 1
+bit false = 0
+
+-- a mask below 2 ^ i, with bit i on or off
+abbrev pub withBit : ℕ → ℕ → Bool → ℕ
+withBit mask i on = bit on * 2 ^ i + mask
+
+-- the mask of the places below n at which the test p holds
+unfoldable pub maskOf : ℕ → (ℕ → Bool) → ℕ
+maskOf zero p = 0
+maskOf (suc n) p = withBit (maskOf n p) n (p n)
+
+-- bit i of a mask is on
+unfoldable pub bitAt : ℕ → ℕ → Bool
+bitAt mask i = eqb (mask / 2 ^ i % 2) 1
+
+-- one more bit keeps a mask below the next power
+with-below : (b : Bool) (mask i : ℕ) → mask < 2 ^ i → withBit mask i b < 2 ^ suc i
+with-below true mask i l = rw (one-mul, pow-suc) (omega arith)
+with-below false mask i l = rw (zero-mul, pow-suc) (omega arith)
+
+-- a mask of n places is below 2 ^ n
+pub mask-below : (n : ℕ) (p : ℕ → Bool) → maskOf n p < 2 ^ n
+unfolding maskOf
+mask-below zero p = le-refl 1
+mask-below (suc n) p = with-below (p n) (maskOf n p) n (mask-below n p)
+
+-- tests that agree below n make the same mask
+pub mask-cong : (n : ℕ) (p q : ℕ → Bool) → ((i : ℕ) → i < n → p i ≡ q i) → maskOf n p ≡ maskOf n q
+unfolding maskOf
+mask-cong zero p q h = refl
+mask-cong (suc n) p q h = rw (h n (le-refl (suc n)), mask-cong n p q (λ i l. h i (omega arith)))
+
+-- before the first turn of a loop
+pub mask-none : (p : ℕ → Bool) → 0 ≡ maskOf 0 p
+unfolding maskOf
+mask-none p = refl
+
+-- a turn of a loop that adds bit i
+pub mask-turn : (i : ℕ) (p : ℕ → Bool) {b : Bool} {mask r : ℕ} → mask ≡ maskOf i p → r ≡ withBit mask i b → b ≡ p i → r ≡ maskOf (i + 1) p
+unfolding maskOf
+mask-turn i p m e q = rw (add-one, e, m, q)
+
+-- after the last turn
+pub mask-done : (n i : ℕ) (p : ℕ → Bool) (mask : ℕ) → mask ≡ maskOf i p → i ≤ n → n ≤ i → mask ≡ maskOf n p
+mask-done n i p mask e l g = rw (e, le-antisymm l g)
+
+-- the code's `1 << i` at a width of w bits
+pub shl-is : (i w : ℕ) → i < w → 1 * 2 ^ i % 2 ^ w ≡ 2 ^ i
+shl-is i w h = rw one-mul (mod-eq-of-lt (pow-lt h))
+
+-- a turn that adds `1 << i` to a mask of the places before i does not wrap
+pub mask-fits : (i : ℕ) (p : ℕ → Bool) (w : ℕ) → i < w → maskOf i p + 1 * 2 ^ i % 2 ^ w < 2 ^ w
+mask-fits i p w h = rw (shl-is i w h) (omega (arith, mask-below i p, pow-suc 2 i, pow-mono h))
+
+-- and makes that of one place more, if the test holds at i
+pub mask-set : (i : ℕ) (p : ℕ → Bool) (w : ℕ) {mask : ℕ} → i < w → mask ≡ maskOf i p → true ≡ p i → mask + 1 * 2 ^ i % 2 ^ w ≡ maskOf (i + 1) p
+unfolding maskOf
+mask-set i p w h m t = rw (shl-is i w h, m, add-one, ← t, one-mul) (add-comm _ _)
+
+-- so does a turn that adds nothing, if it does not hold there
+pub mask-clear : (i : ℕ) (p : ℕ → Bool) {mask : ℕ} → mask ≡ maskOf i p → false ≡ p i → mask ≡ maskOf (i + 1) p
+unfolding maskOf
+mask-clear i p m f = rw (m, add-one, ← f, zero-mul, zero-add)
+
+-- a bit further up does not change bit i
+bit-above : (n i m : ℕ) → i < n → (m + 2 ^ n) / 2 ^ i % 2 ≡ m / 2 ^ i % 2
+bit-above zero i m h = absurd (not-suc-le-zero h)
+bit-above (suc n) zero m h = omega (arith, pow-suc 2 n)
+bit-above (suc n) (suc i) m h =
+    let half : (m + 2 ^ suc n) / 2 ≡ m / 2 + 2 ^ n = omega (arith, pow-suc 2 n) in
+    rw (← one-add i, ← shr-shr (m + 2 ^ suc n) 1 i, ← shr-shr m 1 i, half) (bit-above n i (m / 2) (le-of-suc-le-suc h))
+
+-- whether it is on or off
+with-above : (b : Bool) (n i m : ℕ) → i < n → withBit m n b / 2 ^ i % 2 ≡ m / 2 ^ i % 2
+with-above true n i m h = let e : 1 * 2 ^ n + m ≡ m + 2 ^ n = omega arith in rw e (bit-above n i m h)
+with-above false n i m h = let e : 0 * 2 ^ n + m ≡ m = omega arith in rw e
+
+-- the highest bit is the one that was added last
+with-top : (b : Bool) (n m : ℕ) → m < 2 ^ n → withBit m n b / 2 ^ n % 2 ≡ bit b
+with-top true n m h = rw (high 1 n h)
+with-top false n m h = rw (high 0 n h)
+
+-- bit i of a mask, as a number
+bit-of : (n : ℕ) (p : ℕ → Bool) (i : ℕ) → i < n → maskOf n p / 2 ^ i % 2 ≡ bit (p i)
+unfolding maskOf
+bit-of zero p i h = absurd (not-suc-le-zero h)
+bit-of (suc n) p i h =
+    ⊎-elim (λ e. rw e (with-top (p n) n (maskOf n p) (mask-below n p)))
+    (λ l. with-above (p n) n i (maskOf n p) l ∙ bit-of n p i l)
+    (eq-or-lt-of-le (le-of-suc-le-suc h))
+
+-- a test, from its bit
+from-bit : (b : Bool) → eqb (bit b) 1 ≡ b
+from-bit true = refl
+from-bit false = refl
+
+-- bit i of a mask says whether the test holds at i; past the mask's places it is off
+pub bit-at : (n : ℕ) (p : ℕ → Bool) (i : ℕ) → bitAt (maskOf n p) i ≡ (ltb i n && p i)
+unfolding bitAt
+bit-at n p i =
+    by-test (ltb i n)
+    (λ l. rw (l, bit-of n p i (ltb-true i n l)) (from-bit (p i)))
+    (λ g.
+    let z : maskOf n p / 2 ^ i ≡ 0 = div-eq-of-lt (lt-of-lt-of-le (mask-below n p) (pow-mono (ltb-false i n g))) in
+    rw (g, z))

@@ -81,7 +81,7 @@ made t k m left h year low high =
     }
 
 -- a moment is no refusal
-not-refused : (m : Moment) (n : ℕ) → given m ≡ refused n → ⊥
+not-refused : (m : Moment) (n : ℕ) → given m ≡ refused n 0 → ⊥
 not-refused m n e = let z : _≡_ {A = ℕ} 0 1 = cc in omega arith
 
 -- the year and the month of a day before 2107 are found
@@ -100,7 +100,7 @@ found t h =
     (_, moment-is-found t _ i, i)
 
 -- each second has a moment of the years to 2106, or its day is past them
-dated-or-not : {P : Type 0} (t : ℕ) → ((m : Moment) → given m ≡ momentOf t → IsMoment t m → P) → (refused 9 ≡ momentOf t → P) → P
+dated-or-not : {P : Type 0} (t : ℕ) → ((m : Moment) → given m ≡ momentOf t → IsMoment t m → P) → (refused 9 0 ≡ momentOf t → P) → P
 dated-or-not t on none =
     by-test (ltb (t / 86_400) 50_038)
     (λ l. let f = found t (ltb-true _ _ l) in on (f .0) (f .1) (f .2))

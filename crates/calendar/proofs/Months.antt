@@ -64,7 +64,7 @@ year-ends y m d h =
     (λ g. omega (arith, ltb-false y 2107 g, years-have, total-grows yearLength 137 (y - 1970) (omega (arith, ltb-false y 2107 g))))
 
 -- past them there is no year
-pub no-year : (t : ℕ) → 50_038 ≤ t / 86_400 → refused 9 ≡ momentOf t
+pub no-year : (t : ℕ) → 50_038 ≤ t / 86_400 → refused 9 0 ≡ momentOf t
 unfolding momentOf yearDay
 no-year t h = simp (span-none 137 yearLength (t / 86_400) (rw years-have h))
 

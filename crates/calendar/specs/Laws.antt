@@ -22,7 +22,7 @@ OneMoment = (t : ℕ) (m n : Moment) → IsMoment t m → IsMoment t n → m ≡
 
 -- 9 NO DATE is given exactly when a second has no moment
 abbrev pub NoDateExactly : Type 0
-NoDateExactly = (t : ℕ) → (refused 9 ≡ momentOf t) ↔ ((m : Moment) → IsMoment t m → ⊥)
+NoDateExactly = (t : ℕ) → (refused 9 0 ≡ momentOf t) ↔ ((m : Moment) → IsMoment t m → ⊥)
 
 -- each second of the clock has a moment
 abbrev pub AlwaysDated : Type 0

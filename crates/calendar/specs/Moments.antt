@@ -55,12 +55,12 @@ momentOf t =
     let at = yearDay (t / 86_400) in
     let year = 1970 + at .years in
     let month = span 13 (monthLength year) (at .left) in
-    if ltb year 2107 then given (momentAt t year month (at .left - total month (monthLength year) + 1)) else refused 9
+    if ltb year 2107 then given (momentAt t year month (at .left - total month (monthLength year) + 1)) else refused 9 0
 
 -- what the code's answer says, with document 01's number
 abbrev pub said : Dated → Answer Moment
 said (On m) = given m
-said NoDate = refused 9
+said NoDate = refused 9 0
 
 -- another second of the same minute
 abbrev pub atSecond : Moment → ℕ → Moment

@@ -35,7 +35,7 @@ forceMap p m = maskOf 16 (forceAt p m)
 -- the same of an answer of the calendar: none is in force without a date
 unfoldable pub forceOf : Program → Answer Moment → ℕ
 forceOf p (given m) = forceMap p m
-forceOf p (refused n) = 0
+forceOf p (refused n offset) = 0
 
 -- the tariff rules in force at second t of the clock
 abbrev pub forceMapAt : Program → ℕ → ℕ

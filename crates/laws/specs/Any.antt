@@ -1,6 +1,6 @@
 -- Whether a test holds at some place.
-use mathlib.Core.Path.{_≡_, refl}
-use mathlib.Core.Bool.{Bool, true, false, _||_, or-true}
+use mathlib.Core.Path.{_≡_, refl, sym}
+use mathlib.Core.Bool.{Bool, true, false, _||_, or-true, or-false, or-assoc}
 use mathlib.Core.Logic.{⊎-elim}
 use Prim.Native.Nat.{ℕ, zero, suc, _<_}
 use native.Mathlib.Nat.{le-of-suc-le-suc, not-suc-le-zero, le-refl, eq-or-lt-of-le}
@@ -22,3 +22,9 @@ pub any-none : (n : ℕ) (p : ℕ → Bool) → ((j : ℕ) → j < n → p j ≡
 unfolding any
 any-none zero p none = refl
 any-none (suc n) p none = rw (any-none n p (λ j l. none j (omega arith))) (none n (le-refl (suc n)))
+
+-- the lowest place first
+pub any-low : (n : ℕ) (p : ℕ → Bool) → any (suc n) p ≡ (p 0 || any n (λ i. p (suc i)))
+unfolding any
+any-low zero p = sym (or-false (p 0))
+any-low (suc n) p = rw (any-low n p) (or-assoc (p 0) _ _)

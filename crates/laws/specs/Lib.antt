@@ -1,12 +1,18 @@
--- General definitions, each with its laws: choices, tests, searches, sums, spans laid end to end, masks, claims over a list, answers, and contracts that one
--- result fits.
+-- General definitions, each with its laws: choices, tests, searches, sums, spans laid end to end, masks, keys of a `match`, claims over a list, numbers as
+-- bytes, runs of entries, answers, and contracts that one result fits.
 pub mod If
 pub mod Tests
 pub mod First
+pub mod Broken
 pub mod Any
 pub mod Total
 pub mod Spans
 pub mod Masks
 pub mod Each
+pub mod Keys
+pub mod Bytes
+pub mod Signed
+pub mod Runs
+pub mod Codec
 pub mod Answers
 pub mod Unique

@@ -1,15 +1,17 @@
 -- Masks: numbers whose bits say at which places a test holds.
 use mathlib.Core.Path.{_≡_, refl, ap, _∙_}
-use mathlib.Core.Bool.{Bool, true, false, _&&_}
+use mathlib.Core.Bool.{Bool, true, false, not, _&&_, _||_}
 use mathlib.Core.Logic.{⊎-elim}
-use Prim.Native.Nat.{ℕ, zero, suc, _+_, _*_, _/_, _%_, _^_, _<_, _≤_}
-use native.Mathlib.Nat.{zero-add, add-comm, zero-mul, one-mul, pow-suc, mod-eq-of-lt, div-eq-of-lt, le-refl, le-antisymm, lt-of-lt-of-le, le-of-suc-le-suc, not-suc-le-zero, eq-or-lt-of-le}
+use Prim.Native.Nat.{ℕ, zero, suc, _+_, _*_, _/_, _%_, _^_, _<_, _≤_, min}
+use native.Mathlib.Nat.{zero-add, add-comm, zero-mul, one-mul, pow-suc, mod-eq-of-lt, zero-min, div-eq-of-lt, div-one, le-refl, le-antisymm, lt-of-lt-of-le, le-of-suc-le-suc, not-suc-le-zero, eq-or-lt-of-le}
 use native.Mathlib.Numerals.{add-one, one-add}
 use native.Mathlib.Omega.{arith}
+use lib.Bits.{bitAnd, and-step, and-le-l}
 use lib.Dec.{eqb, ltb}
 use lib.Pow.{high, shr-shr, pow-lt, pow-mono}
-use borrow.Author.Tests.{ltb-true, ltb-false}
+use borrow.Author.Tests.{ltb-true, ltb-false, eqb-true, eqb-false, eq-eqb, ne-eqb}
 use Rattle.laws.specs.Tests.{by-test}
+use Rattle.laws.specs.Any.{any, any-low, any-none}
 
 -- 1 for true, 0 for false
 abbrev pub bit : Bool → ℕ
@@ -119,3 +121,42 @@ bit-at n p i =
     (λ g.
     let z : maskOf n p / 2 ^ i ≡ 0 = div-eq-of-lt (lt-of-lt-of-le (mask-below n p) (pow-mono (ltb-false i n g))) in
     rw (g, z))
+
+-- bit i + 1 is bit i of the half
+bit-half : (x i : ℕ) → bitAt x (suc i) ≡ bitAt (x / 2) i
+unfolding bitAt
+bit-half x i = rw (← one-add i, ← shr-shr x 1 i)
+
+-- two tests of equal numbers that hold together
+eqb-same : (a b c d : ℕ) → (a ≡ b → c ≡ d) → (c ≡ d → a ≡ b) → eqb a b ≡ eqb c d
+eqb-same a b c d f g =
+    by-test (eqb c d) (λ e. rw (e, eq-eqb a b (g (eqb-true c d e)))) (λ e. rw (e, ne-eqb a b (λ q. eqb-false c d e (f q))))
+
+-- the lowest bits of x and m: those of x stand within m exactly if the lowest does and the others do
+covered-low : (x m rest : ℕ) → rest ≤ x / 2
+    → eqb (rest * 2 + min (x % 2) (m % 2)) x ≡ (not (eqb (x % 2) 1 && not (eqb (m % 2) 1)) && eqb rest (x / 2))
+covered-low x m rest h =
+    by-test (eqb (x % 2) 1)
+    (λ a.
+    let a1 : x % 2 ≡ 1 = eqb-true (x % 2) 1 a in
+    by-test (eqb (m % 2) 1)
+    (λ b. let b1 : m % 2 ≡ 1 = eqb-true (m % 2) 1 b in rw (a1, b1) (eqb-same (rest * 2 + 1) x rest (x / 2) (λ e. omega arith) (λ e. omega arith)))
+    (λ b. let b0 : m % 2 ≡ 0 = omega (arith, eqb-false (m % 2) 1 b) in rw (a1, b0) (ne-eqb (rest * 2 + 0) x (λ e. omega arith))))
+    (λ a. let a0 : x % 2 ≡ 0 = omega (arith, eqb-false (x % 2) 1 a) in rw (a0, zero-min) (eqb-same (rest * 2 + 0) x rest (x / 2) (λ e. omega arith) (λ e. omega arith)))
+
+-- the lowest bit
+bit-low : (x : ℕ) → bitAt x 0 ≡ eqb (x % 2) 1
+unfolding bitAt
+bit-low x = rw div-one
+
+not-or : (a b : Bool) → not (a || b) ≡ (not a && not b)
+not-or true b = refl
+not-or false b = refl
+
+-- the code's `x & m == x`: no bit of x, of its n, stands outside m
+pub covered : (n x m : ℕ) → x < 2 ^ n → eqb (bitAnd x m) x ≡ not (any n (λ i. bitAt x i && not (bitAt m i)))
+covered zero x m h = let z : x ≡ 0 = omega arith in rw (z, any-none 0 (λ i. bitAt 0 i && not (bitAt m i)) (λ j l. absurd (not-suc-le-zero l)))
+covered (suc n) x m h =
+    let q : x / 2 < 2 ^ n = omega (arith, pow-suc 2 n) in
+    rw (any-low n (λ i. bitAt x i && not (bitAt m i)), bit-low x, bit-low m, not-or, and-step x m, covered-low x m (bitAnd (x / 2) (m / 2)) (and-le-l (x / 2) (m / 2)), covered n (x / 2) (m / 2) q)
+    (simp bit-half)

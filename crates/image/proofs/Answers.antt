@@ -1,0 +1,88 @@
+-- The answers, test by test: what each return of the code has to show.
+use mathlib.Core.Path.{_≡_, refl, sym, ap, fun-ext, _∙_}
+use mathlib.Core.Bool.{true, false, and-self-left}
+use mathlib.Core.List.{List}
+use Prim.Native.Nat.{ℕ, _≤_, _<_}
+use native.Mathlib.Nat.{le-refl}
+use native.Mathlib.Omega.{arith}
+use borrow.Author.Tests.{eq-eqb, ne-eqb, lt-ltb, le-ltb}
+use lib.Dec.{ltb}
+use lib.ListN.{length, drop}
+use lib.Seq.{sets, sets-eq}
+use Rattle.laws.specs.Answers.{Answer, given, refused}
+use Rattle.laws.specs.Bytes.{le}
+use Rattle.laws.specs.Masks.{maskOf, bitAt, bit-at}
+use Rattle.image.specs.Image.{encode, decode, Counted}
+use Rattle.image.specs.Rules.{fittedIn}
+use Rattle.image.specs.Check.{verdictAt, orElse, checked}
+use Rattle.image.specs.Answers.{imageSaid, marked, imageAnswer, imageConfig, orBlank, IsRead, refusedWith, writeAnswer, afterWrite, orKept}
+use Rattle.image.specs.declared.Config.{Config}
+use Rattle.image.specs.declared.Input.{Input}
+use Rattle.image.specs.declared.ImageRead.{ImageRead}
+use Rattle.image.specs.declared.ImageAnswer.{ImageAnswer}
+use Rattle.image.specs.declared.ImageAnswer.the-variants.{Accepted}
+use Rattle.image.proofs.Stores.{length-encode}
+
+-- the mask of the fitted inputs says which are fitted
+pub fitted-test : (inputs : List Input) → bitAt (maskOf 16 (fittedIn inputs)) ≡ fittedIn inputs
+unfolding fittedIn
+fitted-test inputs = fun-ext (λ i. bit-at 16 (fittedIn inputs) i ∙ and-self-left (ltb i 16) _)
+
+module _ (base size count : ℕ) where
+  -- the verdict on a section, and before the verdict on those after it
+  pub verdict-before : {i n : ℕ} {own all later rest : Answer (Unit {0})} → i ≡ n → own ≡ verdictAt base size count i → all ≡ orElse own later → later ≡ rest
+      → all ≡ orElse (verdictAt base size count n) rest
+  verdict-before e f g h = rw (g, f, e, h)
+
+  -- a section in which no rule is broken
+  pub no-verdict : {n : ℕ} {all rest : Answer (Unit {0})} → n ≡ count → all ≡ rest → all ≡ orElse (verdictAt base size count n) rest
+  no-verdict e h = rw (e, le-ltb count count (le-refl _)) h
+
+module _ (b : List ℕ) where
+  pub answer-length : (length b ≡ 1126 → ⊥) → imageAnswer b ≡ refused 1 0
+  unfolding imageAnswer
+  answer-length n = rw (ne-eqb (length b) 1126 n)
+
+  module _ (n : length b ≡ 1126) where
+    pub answer-mark : marked b ≡ false → imageAnswer b ≡ refused 2 0
+    unfolding imageAnswer
+    answer-mark m = rw (eq-eqb (length b) 1126 n, m)
+
+    pub answer-version : marked b ≡ true → (le 2 (drop 3 b) ≡ 1 → ⊥) → imageAnswer b ≡ refused 3 3
+    unfolding imageAnswer
+    answer-version m v = rw (eq-eqb (length b) 1126 n, m, ne-eqb (le 2 (drop 3 b)) 1 v)
+
+    pub answer-checked : marked b ≡ true → le 2 (drop 3 b) ≡ 1 → imageAnswer b ≡ checked (decode b)
+    unfolding imageAnswer
+    answer-checked m v = rw (eq-eqb (length b) 1126 n, m, eq-eqb (le 2 (drop 3 b)) 1 v)
+
+  -- a refusal is read
+  pub read-refused : (a : ImageAnswer) {r : ImageRead} {k o : ℕ} → r ≡ refusedWith a → imageSaid a ≡ refused k o → imageAnswer b ≡ refused k o → IsRead b r
+  unfolding imageConfig
+  read-refused a e s q = record { answer = rw (e, q) s; config = rw (e, q) }
+
+  -- an accepted image is read
+  pub read-accepted : (c : Config) → c ≡ decode b → imageAnswer b ≡ given tt → IsRead b (record { answer = Accepted; config = c })
+  unfolding imageConfig
+  read-accepted c e q = record { answer = rw q; config = rw q e }
+
+module _ (c : Config) (l : List ℕ) where
+  -- an entry breaks its rule: nothing is written
+  pub write-value : {k o : ℕ} → checked c ≡ refused k o → (refused k o ≡ writeAnswer c (length l)) × (l ≡ afterWrite c l)
+  unfolding writeAnswer afterWrite
+  write-value e = (rw e, rw e)
+
+  -- the buffer is too short: nothing is written
+  pub write-no-room : checked c ≡ given tt → length l < 1126 → (refused 13 0 ≡ writeAnswer c (length l)) × (l ≡ afterWrite c l)
+  unfolding writeAnswer afterWrite
+  write-no-room e h = (rw (e, lt-ltb (length l) 1126 h), rw (e, lt-ltb (length l) 1126 h))
+
+  -- the image is written, and no byte after it
+  pub write-image : checked c ≡ given tt → 1126 ≤ length l → Counted c → {l′ : List ℕ} → l′ ≡ sets l 0 (encode c)
+      → (given tt ≡ writeAnswer c (length l)) × (l′ ≡ afterWrite c l)
+  unfolding writeAnswer afterWrite
+  write-image e h n s =
+      let k = length-encode c n in (
+        rw (e, le-ltb (length l) 1126 h),
+        rw (e, le-ltb (length l) 1126 h) (s ∙ sets-eq (encode c) l 0 (omega (arith, k)) ∙ rw k),
+      )

@@ -1,0 +1,4 @@
+-- What the proofs of this crate share.
+pub mod Entries
+pub mod Stores
+pub mod Answers

@@ -1,0 +1,14 @@
+-- `image::read::register` meets its contract.
+use native.Mathlib.Nat.{add-zero}
+use borrow.Author.Needs.{needs}
+use lib.Seq.{getD-drop}
+use Rattle.image.specs.Entries.{registerOf}
+use Rattle.image.proofs.read.register.Statement.{statement}
+use Rattle.image.proofs.read.register.Tie as tie
+
+returns : tie.Need-returns
+unfolding registerOf
+returns c = simp (getD-drop, add-zero)
+
+pub register-spec : {M : Type 1} → statement M
+register-spec = tie.close (tie.spec (λ c. search needs) (λ c. search needs) (λ c. search needs) returns)

@@ -1,0 +1,39 @@
+-- `image::read::rules` meets its contract. The loop's invariant: the entries before i are there.
+use Prim.Native.Nat.{_-_}
+use borrow.Author.Needs.{needs}
+use Rattle.laws.specs.Runs.{Filled, filled-none, filled-more, filled-all}
+use Rattle.image.specs.Entries.{ruleOf}
+use Rattle.image.proofs.read.rules.Statement.{statement}
+use Rattle.image.proofs.read.rules.Tie as tie
+
+abbrev Inv-loop : tie.InvT-loop
+Inv-loop s base r₀ i₀ r i = Filled ruleOf 2 16 s base r i
+
+abbrev μ-loop : tie.MeasureT-loop
+μ-loop s base r₀ i₀ r i = 16 - i
+
+loop-holds : tie.Need-loop-holds Inv-loop μ-loop
+loop-holds c = filled-none _ _ _ _ _
+
+loop-again : tie.Need-loop-again Inv-loop μ-loop
+loop-again c = filled-more (c .before .before .loop .inv) (c .rule .result) (c .before .loop-test .taken) (c .rule .ensures)
+
+returns : tie.Need-returns Inv-loop μ-loop
+returns c = filled-all (c .before .loop .inv) (c .loop-test .left)
+
+pub rules-spec : {M : Type 1} → statement M
+rules-spec =
+    tie.close
+    (tie.spec
+    Inv-loop
+    μ-loop
+    loop-holds
+    (λ c. search needs)
+    (λ c. search needs)
+    (λ c κs. search needs)
+    (λ c. search needs)
+    (λ c. search needs)
+    (λ c. search needs)
+    (λ c. search needs)
+    loop-again
+    returns)

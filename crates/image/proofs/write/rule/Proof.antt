@@ -1,0 +1,18 @@
+-- `image::write::rule` meets its contract.
+use native.Mathlib.Omega.{arith}
+use native.Mathlib.Numerals.{add-one}
+use borrow.Author.Needs.{needs}
+use lib.ListN.{length-set}
+use Rattle.image.specs.Entries.{ruleBytes}
+use Rattle.image.proofs.write.rule.Statement.{statement}
+use Rattle.image.proofs.write.rule.Tie as tie
+
+slice-write-buf-2 : tie.Need-slice-write-buf-2
+slice-write-buf-2 c = simp length-set (omega arith)
+
+returns : tie.Need-returns
+unfolding ruleBytes
+returns c = rw add-one
+
+pub rule-spec : {M : Type 1} → statement M
+rule-spec = tie.close (tie.spec (λ c. search needs) (λ c. search needs) slice-write-buf-2 (λ c. search needs) returns)

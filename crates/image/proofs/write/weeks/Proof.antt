@@ -1,0 +1,44 @@
+-- `image::write::weeks` meets its contract. The loop's invariant: the entries before i are stored.
+use Prim.Native.Nat.{_-_}
+use borrow.Author.Needs.{needs}
+use Rattle.laws.specs.Codec.{number}
+use Rattle.laws.specs.Runs.{Stored, stored-none, stored-more, stored-all}
+use Rattle.laws.specs.Bytes.{bytesOf}
+use Rattle.image.proofs.write.weeks.Statement.{statement}
+use Rattle.image.proofs.write.weeks.Tie as tie
+
+abbrev Inv-loop : tie.InvT-loop
+Inv-loop buf₀ base xs i₀ buf i = Stored (bytesOf 1) 128 buf₀ base xs buf i
+
+abbrev μ-loop : tie.MeasureT-loop
+μ-loop buf₀ base xs i₀ buf i = 128 - i
+
+loop-holds : tie.Need-loop-holds Inv-loop μ-loop
+loop-holds c = stored-none _ _ _ _ (search needs)
+
+loop-again : tie.Need-loop-again Inv-loop μ-loop
+loop-again c =
+    stored-more 1 ((number 1) .wide) 0 (c .before .before .before .before .before .loop .inv) (c .before .before .before .before .loop-test .taken) (c .before .before .put-u8 .ensures)
+
+same-length : tie.Need-same-length Inv-loop μ-loop
+same-length c = c .before .loop .inv .long
+
+returns : tie.Need-returns Inv-loop μ-loop
+returns c = stored-all (c .before .loop .inv) (c .loop-test .left)
+
+pub weeks-spec : {M : Type 1} → statement M
+weeks-spec =
+    tie.close
+    (tie.spec
+    Inv-loop
+    μ-loop
+    loop-holds
+    (λ c. search needs)
+    (λ c. search needs)
+    (λ c. search needs)
+    (λ c κs. search needs)
+    (λ c. search needs)
+    (λ c. search needs)
+    loop-again
+    same-length
+    returns)

@@ -2,3 +2,5 @@
 pub mod Entries
 pub mod Stores
 pub mod Answers
+pub mod Laws
+pub mod Trips

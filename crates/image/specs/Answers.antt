@@ -4,7 +4,7 @@ use mathlib.Core.List.{List, _++_}
 use mathlib.Core.Path.{_≡_}
 use Prim.Native.Nat.{ℕ}
 use lib.Dec.{eqb, ltb}
-use lib.ListN.{length, getD, drop}
+use lib.ListN.{length, getD, drop, replicate}
 use Rattle.laws.specs.If.{if_then_else_}
 use Rattle.laws.specs.Answers.{Answer, given, refused}
 use Rattle.laws.specs.Bytes.{le}
@@ -12,6 +12,7 @@ use Rattle.image.specs.Image.{encode, decode, blankConfig}
 use Rattle.image.specs.Check.{checked, orElse}
 use Rattle.image.specs.declared.Config.{Config}
 use Rattle.image.specs.declared.ImageRead.{ImageRead}
+use Rattle.image.specs.declared.ImageCopy.{ImageCopy}
 use Rattle.image.specs.declared.Verdict.{Verdict}
 use Rattle.image.specs.declared.Verdict.the-variants as verdict
 use Rattle.image.specs.declared.ImageAnswer.{ImageAnswer}
@@ -80,3 +81,18 @@ orKept (refused n offset) image old = old
 -- buffer as the .. image has."
 unfoldable pub afterWrite : Config → List ℕ → List ℕ
 afterWrite c old = orKept (writeAnswer c (length old)) (encode c) old
+
+-- what writing a configuration and reading it back gives: the configuration itself, or 4 VALUE
+pub record ComesBack (c : Config) (r : ImageRead) : Type 0 where
+  pub answer : imageSaid (r .answer) ≡ checked c
+  pub config : r .config ≡ orBlank (checked c) c
+
+-- the bytes that were asked for, or zeros beside a refusal
+abbrev pub orZeros : Answer (Unit {0}) → List ℕ → List ℕ
+orZeros (given u) b = b
+orZeros (refused n offset) b = replicate 1126 0
+
+-- what reading an image and writing it anew gives: the image itself, or its refusal
+pub record IsCopy (b : List ℕ) (r : ImageCopy) : Type 0 where
+  pub answer : imageSaid (r .answer) ≡ imageAnswer b
+  pub image : r .image ≡ orZeros (imageAnswer b) b

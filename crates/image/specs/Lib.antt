@@ -4,3 +4,4 @@ pub mod Image
 pub mod Rules
 pub mod Check
 pub mod Answers
+pub mod Laws

@@ -15,7 +15,7 @@ ghost use Prim.Native.Nat.{_+_, _*_, _<_};
 ghost use lib.ListN.{length};
 ghost use Rattle.image.specs.Image.{blankProgram, blankConfig};
 ghost use Rattle.image.specs.Check.{verdictAt, orElse, checked};
-ghost use Rattle.image.specs.Answers.{verdictSaid, imageSaid, writeSaid, refusedWith, imageAnswer, imageConfig, IsRead, writeAnswer, afterWrite};
+ghost use Rattle.image.specs.Answers.{verdictSaid, imageSaid, writeSaid, refusedWith, imageAnswer, imageConfig, IsRead, writeAnswer, afterWrite, ComesBack, IsCopy};
 
 // One impulse input. Kind 0 is not fitted, 1 S1a, 2 S1r.
 pub struct Input {
@@ -76,6 +76,12 @@ pub enum WriteAnswer {
     Written,
     Value(usize),
     NoRoom,
+}
+
+// An image written anew, and zeros beside a refusal.
+pub struct ImageCopy {
+    pub answer: ImageAnswer,
+    pub image: [u8; 1126],
 }
 
 // The verdict on a section: entry i of its entries is the first that breaks its rule, or there is none where i is their count.
@@ -228,5 +234,31 @@ pub fn write_image(config: Config, buffer: &mut [u8]) -> WriteAnswer
             WriteAnswer::Written
         }
         Verdict::Value(offset) => WriteAnswer::Value(offset),
+    }
+}
+
+// Writes a configuration and reads it back: a good one comes back as it was.
+pub fn write_then_read(config: Config) -> ImageRead
+    ensures { λ r. ⌜ ComesBack config r ⌝ }
+{
+    let mut image = [0u8; 1126];
+    if let WriteAnswer::Value(offset) = write_image(config, &mut image) {
+        return refused(ImageAnswer::Value(offset));
+    }
+    read_image(&image)
+}
+
+// Reads an image and writes it anew: an accepted one comes back byte by byte. The blank configuration beside a refusal is not written.
+pub fn read_then_write(bytes: &[u8]) -> ImageCopy
+    ensures { λ r. ⌜ IsCopy (now (bytes .entry)) r ⌝ }
+{
+    let mut image = [0u8; 1126];
+    let read = read_image(bytes);
+    let answer = read.answer;
+    let config = read.config;
+    write_image(config, &mut image);
+    ImageCopy {
+        answer: answer,
+        image: image,
     }
 }

@@ -14,5 +14,6 @@ pub mod Bytes
 pub mod Signed
 pub mod Runs
 pub mod Codec
+pub mod Arrays
 pub mod Answers
 pub mod Unique

@@ -1,12 +1,12 @@
 -- Entries one after another in bytes: the loops that write and that read such a run. A record says how far a loop has come; three laws say that it starts, goes on
 -- and is done.
 use mathlib.Core.Path.{_≡_, refl, sym, ap, _∙_}
-use mathlib.Core.List.{List, [], _∷_, _++_, append-assoc, append-nil, map}
+use mathlib.Core.List.{List, [], _∷_, _++_, append-assoc, append-nil}
 use Prim.Native.Nat.{ℕ, zero, suc, _+_, _*_, _≤_, _<_, zero-le}
 use native.Mathlib.Nat.{mul-suc, add-zero, suc-add, add-suc}
 use native.Mathlib.Numerals.{add-one}
 use native.Mathlib.Omega.{arith}
-use lib.ListN.{length, take, drop, getD, set, length-append, length-set, length-map}
+use lib.ListN.{length, take, drop, getD, set, length-append, length-set}
 use lib.Seq.{sets, drop-drop, take-suc, take-suc-set, take-all, length-sets, length-take-le}
 
 -- places as the code has them and as `sets` counts them
@@ -103,7 +103,3 @@ module _ {A : Type 0} where
   filled-all {dec} {size} {n} {s} {base} {r} {i} f h =
       let e : i ≡ n = omega arith in
       sym (take-all n r (omega (arith, f .long))) ∙ ap (λ (k : ℕ). take k r) (sym e) ∙ f .done ∙ ap (λ (k : ℕ). entries dec size k (drop base s)) e
-
--- the length of a field that is an array of structs, as a proof has it
-pub length-mapped : {X Y : Type 0} (f : X → Y) (l : List X) (n : ℕ) → length (map f l) ≡ n → length l ≡ n
-length-mapped f l n e = sym (length-map l f) ∙ e

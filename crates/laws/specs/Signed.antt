@@ -1,22 +1,16 @@
 -- "signed ones are two's complement", over the width: `!` of the bits of a negative number is below the sign bit, and a second `!` gives the bits back.
 use mathlib.Core.Path.{_≡_}
 use mathlib.Core.Bool.{true, false, true≢false}
-use mathlib.Core.List.{List, [], _∷_}
-use Prim.Native.Nat.{ℕ, zero, suc, _-_, _^_, _<_}
+use Prim.Native.Nat.{suc, _-_, _^_, _<_}
 use native.Mathlib.Nat.{lt-trans, not-suc-le-zero}
 use native.Mathlib.Omega.{arith}
 use borrow.Author.Tests.{ltb-true}
 use lib.Dec.{lit<}
-use lib.ListN.{getD}
 use lib.IntN.{ℤ, pos, negsuc}
-use lib.Pow.{pow-pos}
 use lib.Signed.{mag, ltZ}
 use mir.Syntax.{Width, w8, w16, w32, w64, w128}
-use mir.Val.{Val, SFits, bits, hbits, toZ, ofZ}
+use mir.Val.{SFits, bits, hbits, toZ, ofZ}
 use mir.Facts.{toZ-pos}
-use denote.Signed.{SInt}
-use denote.Shadow.{shadow}
-use denote.Array.{each}
 
 half : (w : Width) → 2 ^ hbits w < 2 ^ bits w
 half w8 = lit< tt
@@ -44,10 +38,3 @@ negative w (negsuc n) h t =
 pub natural : (w : Width) (z : ℤ) → SFits w z → ltZ z (pos 0) ≡ false → toZ w (ofZ w z) ≡ pos (ofZ w z)
 natural w (pos n) h t = toZ-pos w (h .sfits)
 natural w (negsuc n) h t = absurd (true≢false t)
-
--- an element of an array of signed numbers is one of its width; past the end `getD` gives 0
-pub elem-sfits : (w : Width) (xs : List ℤ) (us : List Val) (i : ℕ) → shadow (each ℤ (SInt w .own) xs us) → SFits w (getD xs i (pos 0))
-elem-sfits w [] us i p = record { sfits = pow-pos (hbits w) }
-elem-sfits w (x ∷ xs) [] i p = absurd p
-elem-sfits w (x ∷ xs) (u ∷ us) zero p = record { sfits = p .0 .1 }
-elem-sfits w (x ∷ xs) (u ∷ us) (suc i) p = elem-sfits w xs us i (p .1)

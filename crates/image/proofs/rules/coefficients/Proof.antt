@@ -8,7 +8,7 @@ use lib.IntN.{pos}
 use mir.Syntax.{w8}
 use mir.Val.{SFits}
 use mir.Facts.{toZ-ofZ}
-use Rattle.laws.specs.Signed.{elem-sfits}
+use Rattle.laws.specs.Arrays.{elem-sfits}
 use Rattle.laws.specs.Broken.{Kept, kept-none, kept-more, kept-broken, kept-all}
 use Rattle.image.specs.Rules.{coefficientGood}
 use Rattle.image.proofs.rules.coefficients.Statement.{statement}

@@ -1,0 +1,26 @@
+-- What is proved of the image (proofs/Laws.antt), for the layers above and for a reader who doubts the definitions.
+use mathlib.Core.List.{List}
+use mathlib.Core.Path.{_≡_}
+use Prim.Native.Nat.{ℕ}
+use Rattle.laws.specs.Answers.{given}
+use Rattle.laws.specs.Bytes.{Bytes}
+use Rattle.image.specs.Image.{encode, Counted, Typed}
+use Rattle.image.specs.Check.{checked}
+use Rattle.image.specs.Answers.{imageAnswer, imageConfig}
+use Rattle.image.specs.declared.Config.{Config}
+
+-- "A configuration written and read back is the same configuration": each good one, whose numbers fit their fields
+abbrev pub WrittenIsRead : Type 0
+WrittenIsRead = (c : Config) → Counted c → Typed c → checked c ≡ given tt → (imageAnswer (encode c) ≡ given tt) × (imageConfig (encode c) ≡ c)
+
+-- "an accepted image read and written is the same bytes"
+abbrev pub ReadIsWritten : Type 0
+ReadIsWritten = (b : List ℕ) → Bytes b → imageAnswer b ≡ given tt → encode (imageConfig b) ≡ b
+
+-- the configuration of an accepted image breaks no rule
+abbrev pub ReadIsGood : Type 0
+ReadIsGood = (b : List ℕ) → imageAnswer b ≡ given tt → checked (imageConfig b) ≡ given tt
+
+-- an image has one configuration
+abbrev pub OneConfig : Type 0
+OneConfig = (c d : Config) → Counted c → Typed c → Counted d → Typed d → encode c ≡ encode d → c ≡ d

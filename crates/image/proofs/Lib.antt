@@ -4,3 +4,5 @@ pub mod Stores
 pub mod Answers
 pub mod Laws
 pub mod Trips
+pub mod Lines
+pub mod Unique

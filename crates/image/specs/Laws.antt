@@ -1,12 +1,13 @@
 -- What is proved of the image (proofs/Laws.antt), for the layers above and for a reader who doubts the definitions.
-use mathlib.Core.List.{List}
+use mathlib.Core.List.{List, [], _∷_, _++_}
 use mathlib.Core.Path.{_≡_}
-use Prim.Native.Nat.{ℕ}
-use Rattle.laws.specs.Answers.{given}
+use Prim.Native.Nat.{ℕ, _<_}
+use Rattle.laws.specs.Answers.{given, refused}
 use Rattle.laws.specs.Bytes.{Bytes}
 use Rattle.image.specs.Image.{encode, Counted, Typed}
 use Rattle.image.specs.Check.{checked}
 use Rattle.image.specs.Answers.{imageAnswer, imageConfig}
+use Rattle.image.specs.Line.{refusedWord, atWord, lineOf}
 use Rattle.image.specs.declared.Config.{Config}
 
 -- "A configuration written and read back is the same configuration": each good one, whose numbers fit their fields
@@ -24,3 +25,11 @@ ReadIsGood = (b : List ℕ) → imageAnswer b ≡ given tt → checked (imageCon
 -- an image has one configuration
 abbrev pub OneConfig : Type 0
 OneConfig = (c d : Config) → Counted c → Typed c → Counted d → Typed d → encode c ≡ encode d → c ≡ d
+
+-- the refusals of an image have one digit, and offsets within the image: so the tester's line shows both as they are
+abbrev pub RefusalInLine : Type 0
+RefusalInLine = (b : List ℕ) (n offset : ℕ) → imageAnswer b ≡ refused n offset → (n < 10) × (offset < 1126)
+
+-- "for empty input exactly `refused 1 at 0`", with the end of the line
+abbrev pub EmptyLine : Type 0
+EmptyLine = lineOf (imageAnswer []) ≡ refusedWord ++ (49 ∷ (atWord ++ (48 ∷ 10 ∷ [])))

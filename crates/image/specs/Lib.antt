@@ -4,4 +4,5 @@ pub mod Image
 pub mod Rules
 pub mod Check
 pub mod Answers
+pub mod Line
 pub mod Laws

@@ -1,5 +1,6 @@
 // The configuration: typed, checked by one rule, read from an image and written to one.
 mod le;
+mod letters;
 mod read;
 mod rules;
 mod write;
@@ -15,6 +16,7 @@ ghost use Prim.Native.Nat.{_+_, _*_, _<_};
 ghost use lib.ListN.{length};
 ghost use Rattle.image.specs.Image.{blankProgram, blankConfig};
 ghost use Rattle.image.specs.Check.{verdictAt, orElse, checked};
+ghost use Rattle.image.specs.Line.{testerLine};
 ghost use Rattle.image.specs.Answers.{verdictSaid, imageSaid, writeSaid, refusedWith, imageAnswer, imageConfig, IsRead, writeAnswer, afterWrite, ComesBack, IsCopy};
 
 // One impulse input. Kind 0 is not fitted, 1 S1a, 2 S1r.
@@ -82,6 +84,12 @@ pub enum WriteAnswer {
 pub struct ImageCopy {
     pub answer: ImageAnswer,
     pub image: [u8; 1126],
+}
+
+// A line of letters: the first `length` of the text.
+pub struct Line {
+    pub text: [u8; 18],
+    pub length: usize,
 }
 
 // The verdict on a section: entry i of its entries is the first that breaks its rule, or there is none where i is their count.
@@ -261,4 +269,11 @@ pub fn read_then_write(bytes: &[u8]) -> ImageCopy
         answer: answer,
         image: image,
     }
+}
+
+// The line that the image tester prints for an image, with its end.
+pub fn tester_line(bytes: &[u8]) -> Line
+    ensures { λ r. ⌜ r ≡ testerLine (now (bytes .entry)) ⌝ }
+{
+    letters::line_of(check_image(bytes))
 }

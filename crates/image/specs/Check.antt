@@ -1,7 +1,8 @@
 -- "4 VALUE: an entry breaks its rule; with the offset of the first such entry". The sections stand as in document 01's table.
-use mathlib.Core.Bool.{Bool, true}
+use mathlib.Core.Bool.{Bool, true, false}
 use mathlib.Core.List.{List, [], _∷_}
-use Prim.Native.Nat.{ℕ, _+_, _*_}
+use mathlib.Core.Path.{_≡_}
+use Prim.Native.Nat.{ℕ, _+_, _*_, _<_}
 use lib.Dec.{ltb}
 use lib.ListN.{getD}
 use lib.IntN.{pos}
@@ -58,3 +59,13 @@ firstBad (s ∷ rest) = orElse (verdictAt (s .base) (s .size) (s .count) (firstB
 -- the check of a configuration
 unfoldable pub checked : Config → Answer (Unit {0})
 checked c = firstBad (sections c)
+
+-- each entry of a section keeps its rule
+abbrev pub Holds : Section → Type 0
+Holds s = (i : ℕ) → i < s .count → s .good i ≡ true
+
+-- the first entry that breaks its rule stands at an offset: it is the first of its section, and all sections before keep their rules
+pub data FirstBadAt : List Section → ℕ → Type 0 where
+  here : {s : Section} {rest : List Section} (i : ℕ) → i < s .count → s .good i ≡ false → ((j : ℕ) → j < i → s .good j ≡ true)
+      → FirstBadAt (s ∷ rest) (s .base + s .size * i)
+  later : {s : Section} {rest : List Section} {offset : ℕ} → Holds s → FirstBadAt rest offset → FirstBadAt (s ∷ rest) offset

@@ -1,11 +1,13 @@
 -- What is proved of the image (proofs/Laws.antt), for the layers above and for a reader who doubts the definitions.
+use mathlib.Core.Logic.{_↔_}
 use mathlib.Core.List.{List, [], _∷_, _++_}
 use mathlib.Core.Path.{_≡_}
 use Prim.Native.Nat.{ℕ, _<_}
 use Rattle.laws.specs.Answers.{given, refused}
+use Rattle.laws.specs.Each.{Each}
 use Rattle.laws.specs.Bytes.{Bytes}
 use Rattle.image.specs.Image.{encode, Counted, Typed}
-use Rattle.image.specs.Check.{checked}
+use Rattle.image.specs.Check.{sections, checked, Holds, FirstBadAt}
 use Rattle.image.specs.Answers.{imageAnswer, imageConfig}
 use Rattle.image.specs.Line.{refusedWord, atWord, lineOf}
 use Rattle.image.specs.declared.Config.{Config}
@@ -33,3 +35,15 @@ RefusalInLine = (b : List ℕ) (n offset : ℕ) → imageAnswer b ≡ refused n 
 -- "for empty input exactly `refused 1 at 0`", with the end of the line
 abbrev pub EmptyLine : Type 0
 EmptyLine = lineOf (imageAnswer []) ≡ refusedWord ++ (49 ∷ (atWord ++ (48 ∷ 10 ∷ [])))
+
+-- a check finds nothing exactly if each entry of each section keeps its rule
+abbrev pub GoodExactly : Type 0
+GoodExactly = (c : Config) → (checked c ≡ given tt) ↔ Each Holds (sections c)
+
+-- "4 VALUE: an entry breaks its rule; with the offset of the first such entry", exactly
+abbrev pub ValueExactly : Type 0
+ValueExactly = (c : Config) (offset : ℕ) → (checked c ≡ refused 4 offset) ↔ FirstBadAt (sections c) offset
+
+-- what is read is valid: each entry of an accepted image keeps its rule
+abbrev pub ReadHolds : Type 0
+ReadHolds = (b : List ℕ) → imageAnswer b ≡ given tt → Each Holds (sections (imageConfig b))

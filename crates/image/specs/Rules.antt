@@ -20,25 +20,31 @@ use Rattle.image.specs.declared.Input.{Input}
 use Rattle.image.specs.declared.Slot.{Slot}
 use Rattle.image.specs.declared.Register.{Register}
 
--- entries of zeros: they stand in a blank configuration, and past the end of a list
+-- an input of zeros: entries of zeros stand in a blank configuration, and past the end of a list
 abbrev pub noInput : Input
 noInput = record { kind = 0; shortest = 0; longest = 0; numerator = 0; denominator = 0 }
 
+-- a slot of zeros
 abbrev pub noSlot : Slot
 noSlot = record { level = 0; index = 0 }
 
+-- a window of zeros
 abbrev pub noWindow : Window
 noWindow = record { first = 0; end = 0 }
 
+-- a season of zeros
 abbrev pub noSeason : Season
 noSeason = record { first = record { day = 0; month = 0 }; second = record { day = 0; month = 0 } }
 
+-- a holiday of zeros
 abbrev pub noHoliday : Holiday
 noHoliday = record { day = 0; month = 0; year = 0 }
 
+-- a tariff rule of zeros
 abbrev pub noRule : Rule
 noRule = record { season = 0; week = 0 }
 
+-- a bill register of zeros
 abbrev pub noRegister : Register
 noRegister = record { sum = 0; rule = 0 }
 

@@ -15,6 +15,7 @@ pub record Kept (n : ℕ) (good : ℕ → Bool) (i : ℕ) : Type 0 where
   pub within : i ≤ n
   pub before : (j : ℕ) → j < i → not (good j) ≡ false
 
+-- before the first turn
 pub kept-none : (n : ℕ) (good : ℕ → Bool) → Kept n good 0
 kept-none n good = record { within = zero-le; before = below-none _ }
 

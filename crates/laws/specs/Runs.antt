@@ -53,10 +53,12 @@ module _ {A : Type 0} where
     pub long : length l ≡ length l₀
     pub done : l ≡ sets l₀ base (joined enc (take i xs))
 
+  -- before the first turn
   pub stored-none : (enc : A → List ℕ) (n : ℕ) (l : List ℕ) (base : ℕ) {xs : List A} → length xs ≡ n → Stored enc n l base xs l 0
   unfolding joined
   stored-none enc n l base {xs} e = record { count = e; within = zero-le; long = refl; done = refl }
 
+  -- a turn that stores entry i
   pub stored-more : {enc : A → List ℕ} {n : ℕ} (size : ℕ) → ((x : A) → length (enc x) ≡ size) → (d : A)
       → {l₀ : List ℕ} {base : ℕ} {xs : List A} {l l′ : List ℕ} {i : ℕ} → Stored enc n l₀ base xs l i
       → i < n → l′ ≡ sets l (base + size * i) (enc (getD xs i d)) → Stored enc n l₀ base xs l′ (i + 1)
@@ -72,6 +74,7 @@ module _ {A : Type 0} where
         rw (e, f .done, ← s, sets-append, add-one, take-suc xs i d, joined-append, append-nil);
   }
 
+  -- after the last turn
   pub stored-all : {enc : A → List ℕ} {n : ℕ} {l₀ : List ℕ} {base : ℕ} {xs : List A} {l : List ℕ} {i : ℕ} → Stored enc n l₀ base xs l i
       → n ≤ i → l ≡ sets l₀ base (joined enc xs)
   stored-all {enc} {n} {l₀} {base} {xs} {l} {i} f h =
@@ -83,10 +86,12 @@ module _ {A : Type 0} where
     pub long : length r ≡ n
     pub done : take i r ≡ entries dec size i (drop base s)
 
+  -- before the first turn
   pub filled-none : (dec : List ℕ → A) (size : ℕ) (s : List ℕ) (base : ℕ) (r : List A) → Filled dec size (length r) s base r 0
   unfolding entries
   filled-none dec size s base r = record { within = zero-le; long = refl; done = refl }
 
+  -- a turn that reads entry i
   pub filled-more : {dec : List ℕ → A} {size n : ℕ} {s : List ℕ} {base : ℕ} {r : List A} {i : ℕ} → Filled dec size n s base r i
       → (x : A) → i < n → x ≡ dec (drop (base + size * i) s) → Filled dec size n s base (set r i x) (i + 1)
   unfolding entries
@@ -98,6 +103,7 @@ module _ {A : Type 0} where
         rw (add-one, take-suc-set r i x, f .done, e, drop-drop);
   }
 
+  -- after the last turn
   pub filled-all : {dec : List ℕ → A} {size n : ℕ} {s : List ℕ} {base : ℕ} {r : List A} {i : ℕ} → Filled dec size n s base r i
       → n ≤ i → r ≡ entries dec size n (drop base s)
   filled-all {dec} {size} {n} {s} {base} {r} {i} f h =

@@ -12,6 +12,7 @@ use mir.Syntax.{Width, w8, w16, w32, w64, w128}
 use mir.Val.{SFits, bits, hbits, toZ, ofZ}
 use mir.Facts.{toZ-pos}
 
+-- the sign bit is one of the bits
 half : (w : Width) → 2 ^ hbits w < 2 ^ bits w
 half w8 = lit< tt
 half w16 = lit< tt

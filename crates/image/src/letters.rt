@@ -6,6 +6,31 @@ ghost use Rattle.laws.specs.Answers.{given, refused};
 ghost use Rattle.image.specs.Answers.{imageSaid};
 ghost use Rattle.image.specs.Line.{digit, lineOf, asLine};
 
+// "ok" and the end of the line.
+const OK: [u8; 18] = [111, 107, 10, 0, 0, 0, 0, 0, 0, 0, 0, 0, 0, 0, 0, 0, 0, 0];
+
+// "refused 0 at ", and room for the offset and the end of the line.
+const REFUSED: [u8; 18] = [
+    114,
+    101,
+    102,
+    117,
+    115,
+    101,
+    100,
+    32,
+    48,
+    32,
+    97,
+    116,
+    32,
+    0,
+    0,
+    0,
+    0,
+    0,
+];
+
 fn last_digit(x: usize) -> u8
     ensures { λ r. ⌜ r ≡ digit x ⌝ }
 {
@@ -15,138 +40,42 @@ fn last_digit(x: usize) -> u8
 fn accepted() -> Line
     ensures { λ r. ⌜ r ≡ asLine (lineOf (given tt)) ⌝ }
 {
+    let text = OK;
     Line {
-        text: [
-            b'o',
-            b'k',
-            b'\n',
-            0,
-            0,
-            0,
-            0,
-            0,
-            0,
-            0,
-            0,
-            0,
-            0,
-            0,
-            0,
-            0,
-            0,
-            0,
-        ],
+        text: text,
         length: 3,
     }
 }
 
-// The digits of the offset stand before the end of the line.
 fn refused(number: usize, offset: usize) -> Line
     ensures { λ r. ⌜ r ≡ asLine (lineOf (refused number offset)) ⌝ }
 {
-    let n = last_digit(number);
-    let d = last_digit(offset);
-    let c = last_digit(offset / 10);
-    let b = last_digit(offset / 100);
-    let a = last_digit(offset / 1000);
+    let mut text = REFUSED;
+    text[8] = last_digit(number);
     if offset < 10 {
-        return Line {
-            text: [
-                b'r',
-                b'e',
-                b'f',
-                b'u',
-                b's',
-                b'e',
-                b'd',
-                b' ',
-                n,
-                b' ',
-                b'a',
-                b't',
-                b' ',
-                d,
-                b'\n',
-                0,
-                0,
-                0,
-            ],
-            length: 15,
-        };
+        text[13] = last_digit(offset);
+        text[14] = 10;
+        return Line { text, length: 15 };
     }
     if offset < 100 {
-        return Line {
-            text: [
-                b'r',
-                b'e',
-                b'f',
-                b'u',
-                b's',
-                b'e',
-                b'd',
-                b' ',
-                n,
-                b' ',
-                b'a',
-                b't',
-                b' ',
-                c,
-                d,
-                b'\n',
-                0,
-                0,
-            ],
-            length: 16,
-        };
+        text[13] = last_digit(offset / 10);
+        text[14] = last_digit(offset);
+        text[15] = 10;
+        return Line { text, length: 16 };
     }
     if offset < 1000 {
-        return Line {
-            text: [
-                b'r',
-                b'e',
-                b'f',
-                b'u',
-                b's',
-                b'e',
-                b'd',
-                b' ',
-                n,
-                b' ',
-                b'a',
-                b't',
-                b' ',
-                b,
-                c,
-                d,
-                b'\n',
-                0,
-            ],
-            length: 17,
-        };
+        text[13] = last_digit(offset / 100);
+        text[14] = last_digit(offset / 10);
+        text[15] = last_digit(offset);
+        text[16] = 10;
+        return Line { text, length: 17 };
     }
-    Line {
-        text: [
-            b'r',
-            b'e',
-            b'f',
-            b'u',
-            b's',
-            b'e',
-            b'd',
-            b' ',
-            n,
-            b' ',
-            b'a',
-            b't',
-            b' ',
-            a,
-            b,
-            c,
-            d,
-            b'\n',
-        ],
-        length: 18,
-    }
+    text[13] = last_digit(offset / 1000);
+    text[14] = last_digit(offset / 100);
+    text[15] = last_digit(offset / 10);
+    text[16] = last_digit(offset);
+    text[17] = 10;
+    Line { text, length: 18 }
 }
 
 // The line of an answer.

@@ -12,3 +12,8 @@ if false then x else y = y
 pub if-cases : {A : Type 0} (P : A → Type 0) (b : Bool) {x y : A} → (b ≡ true → P x) → (b ≡ false → P y) → P (if b then x else y)
 if-cases P true t e = t refl
 if-cases P false t e = e refl
+
+-- a test that makes no difference
+pub if-same : {A : Type 0} (b : Bool) (x : A) → (if b then x else x) ≡ x
+if-same true x = refl
+if-same false x = refl

@@ -1,15 +1,17 @@
 -- What an arm of a `match` on a number knows: one of its keys, a range, or none of the keys.
 use mathlib.Core.Path.{_≡_, refl, subst, sym}
-use mathlib.Core.Bool.{false}
+use mathlib.Core.Bool.{true, false, true≢false}
 use mathlib.Core.List.{List, [], _∷_}
 use mathlib.Core.Logic.{inl, inr, ⊎-elim}
 use Prim.Native.Nat.{ℕ, zero, suc, _+_, _<_, _≤_}
 use native.Mathlib.Nat.{eq-or-lt-of-le}
 use native.Mathlib.Omega.{arith}
-use borrow.Author.Tests.{ne-eqb}
+use lib.Dec.{eqb}
+use borrow.Author.Tests.{eqb-true, ne-eqb}
 use mir.Val.{hasKey}
 use types.Run.{OneOf}
 use Rattle.laws.specs.Each.{Each}
+use Rattle.laws.specs.Tests.{by-test, or-right}
 
 -- what holds of each key holds of the number that is one of them
 pub at-keys : (P : ℕ → Type 0) (ks : List ℕ) (x : ℕ) → Each P ks → OneOf ks x → P x
@@ -39,3 +41,9 @@ none-each (k ∷ (k′ ∷ ks)) x none = (λ e. none (inl e), none-each (k′ �
 pub not-key : (ks : List ℕ) (x : ℕ) → Each (λ k. x ≡ k → ⊥) ks → hasKey ks x ≡ false
 not-key [] x each = refl
 not-key (k ∷ ks) x each = rw (ne-eqb k x (λ e. each .0 (sym e))) (not-key ks x (each .1))
+
+-- what holds of each key holds of the number that passes the keys' test
+pub key-holds : (P : ℕ → Type 0) (ks : List ℕ) (x : ℕ) → Each P ks → hasKey ks x ≡ true → P x
+key-holds P [] x each e = absurd (true≢false (sym e))
+key-holds P (k ∷ ks) x each e =
+    by-test (eqb k x) (λ t. subst P (eqb-true k x t) (each .0)) (λ f. key-holds P ks x (each .1) (or-right (eqb k x) (hasKey ks x) f e))

@@ -1,15 +1,15 @@
 -- Masks: numbers whose bits say at which places a test holds.
-use mathlib.Core.Path.{_≡_, refl, ap, _∙_}
-use mathlib.Core.Bool.{Bool, true, false, not, _&&_, _||_}
+use mathlib.Core.Path.{_≡_, refl, sym, ap, _∙_}
+use mathlib.Core.Bool.{Bool, true, false, _&&_, not, _||_}
 use mathlib.Core.Logic.{⊎-elim}
-use Prim.Native.Nat.{ℕ, zero, suc, _+_, _*_, _/_, _%_, _^_, _<_, _≤_, min}
-use native.Mathlib.Nat.{zero-add, add-comm, zero-mul, one-mul, pow-suc, mod-eq-of-lt, zero-min, div-eq-of-lt, div-one, le-refl, le-antisymm, lt-of-lt-of-le, le-of-suc-le-suc, not-suc-le-zero, eq-or-lt-of-le}
+use Prim.Native.Nat.{ℕ, zero, suc, _+_, _-_, _*_, _/_, _%_, _^_, _<_, _≤_, min}
+use native.Mathlib.Nat.{zero-add, add-comm, zero-mul, one-mul, pow-suc, mod-eq-of-lt, mod-lt, div-eq-of-lt, le-refl, le-antisymm, lt-of-lt-of-le, le-of-suc-le-suc, not-suc-le-zero, eq-or-lt-of-le, zero-min, div-one}
 use native.Mathlib.Numerals.{add-one, one-add}
 use native.Mathlib.Omega.{arith}
 use lib.Bits.{bitAnd, and-step, and-le-l}
 use lib.Dec.{eqb, ltb}
-use lib.Pow.{high, shr-shr, pow-lt, pow-mono}
-use borrow.Author.Tests.{ltb-true, ltb-false, eqb-true, eqb-false, eq-eqb, ne-eqb}
+use lib.Pow.{pow-pos, high, split, field, shr-lt, mod-mod-pow, shr-shr, pow-lt, pow-mono}
+use borrow.Author.Tests.{lt-ltb, ltb-true, ltb-false, eqb-true, eqb-false, eq-eqb, ne-eqb}
 use Rattle.laws.specs.Tests.{by-test}
 use Rattle.laws.specs.Any.{any, any-low, any-none}
 
@@ -121,6 +121,41 @@ bit-at n p i =
     (λ g.
     let z : maskOf n p / 2 ^ i ≡ 0 = div-eq-of-lt (lt-of-lt-of-le (mask-below n p) (pow-mono (ltb-false i n g))) in
     rw (g, z))
+
+-- no bit of 0 is on
+pub bit-zero : (i : ℕ) → bitAt 0 i ≡ false
+unfolding bitAt
+bit-zero i = rw (div-eq-of-lt (pow-pos i))
+
+-- where a mask is 0, the test holds nowhere
+pub mask-zero : (n : ℕ) (p : ℕ → Bool) → maskOf n p ≡ 0 → (i : ℕ) → i < n → p i ≡ false
+mask-zero n p e i l = let t : bitAt (maskOf n p) i ≡ (ltb i n && p i) = bit-at n p i in sym (rw (e, bit-zero i, lt-ltb i n l) at t)
+
+-- a bit below n is that of the number's remainder by 2 ^ n
+bit-below : (n i x : ℕ) → i < n → bitAt (x % 2 ^ n) i ≡ bitAt x i
+unfolding bitAt
+bit-below n i x h =
+    let j : n - i - 1 + 1 + i ≡ n = omega arith in
+    let one : x / 2 ^ i % 2 ^ (n - i - 1 + 1) % 2 ^ 1 ≡ x / 2 ^ i % 2 ^ 1 = mod-mod-pow (x / 2 ^ i) (n - i - 1) 1 in
+    rw (← j, field x (n - i - 1 + 1) i, one)
+
+-- the highest bit of a number below 2 ^ (n + 1)
+top-bit : (n x : ℕ) → x < 2 ^ suc n → x / 2 ^ n ≡ bit (bitAt x n)
+unfolding bitAt
+top-bit n x h =
+    let small : x / 2 ^ n < 2 = shr-lt 1 n (rw one-add h) in
+    by-test (eqb (x / 2 ^ n % 2) 1)
+    (λ e. rw e (let d = eqb-true (x / 2 ^ n % 2) 1 e in omega arith))
+    (λ e. rw e (let d = eqb-false (x / 2 ^ n % 2) 1 e in omega arith))
+
+-- a number below 2 ^ n whose bits are a test is the test's mask
+pub mask-ext : (n x : ℕ) (p : ℕ → Bool) → x < 2 ^ n → ((i : ℕ) → i < n → bitAt x i ≡ p i) → x ≡ maskOf n p
+unfolding maskOf
+mask-ext zero x p h same = omega arith
+mask-ext (suc n) x p h same =
+    let low = mask-ext n (x % 2 ^ n) p (mod-lt x (pow-pos n)) (λ i l. bit-below n i x l ∙ same i (omega arith)) in
+    let top = top-bit n x h in
+    sym (split x n) ∙ rw (← low, ← same n (le-refl (suc n))) (ap (λ t. t * 2 ^ n + x % 2 ^ n) top)
 
 -- bit i + 1 is bit i of the half
 bit-half : (x i : ℕ) → bitAt x (suc i) ≡ bitAt (x / 2) i

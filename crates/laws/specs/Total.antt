@@ -1,8 +1,8 @@
 -- The sum over the places of an array or a table, as a loop `t += f(i)` makes it.
-use mathlib.Core.Path.{_≡_}
+use mathlib.Core.Path.{_≡_, refl}
 use mathlib.Core.Logic.{⊎-elim}
-use Prim.Native.Nat.{ℕ, zero, suc, _+_, _≤_}
-use native.Mathlib.Nat.{le-of-suc-le-suc, le-refl, eq-or-lt-of-le}
+use Prim.Native.Nat.{ℕ, zero, suc, _+_, _<_, _≤_}
+use native.Mathlib.Nat.{le-of-suc-le-suc, le-refl, le-antisymm, eq-or-lt-of-le}
 use native.Mathlib.Numerals.{add-one}
 use native.Mathlib.Omega.{arith}
 
@@ -15,6 +15,31 @@ total (suc n) f = total n f + f n
 pub total-more : (n : ℕ) (f : ℕ → ℕ) → total (n + 1) f ≡ total n f + f n
 unfolding total
 total-more n f = rw add-one
+
+-- before the first turn of a loop
+pub total-none : (f : ℕ → ℕ) → 0 ≡ total 0 f
+unfolding total
+total-none f = refl
+
+-- a turn
+pub total-turn : (i : ℕ) (f : ℕ → ℕ) {t v : ℕ} → t ≡ total i f → v ≡ f i → t + v ≡ total (i + 1) f
+total-turn i f e h = rw (total-more, e, h)
+
+-- after the last turn
+pub total-done : (n i : ℕ) (f : ℕ → ℕ) (t : ℕ) → t ≡ total i f → i ≤ n → n ≤ i → t ≡ total n f
+total-done n i f t e l g = rw (e, le-antisymm l g)
+
+-- equal parts
+pub total-cong : (n : ℕ) (f g : ℕ → ℕ) → ((i : ℕ) → i < n → f i ≡ g i) → total n f ≡ total n g
+unfolding total
+total-cong zero f g h = refl
+total-cong (suc n) f g h = omega (arith, h n (omega arith), total-cong n f g (λ i l. h i (omega arith)))
+
+-- no parts
+pub total-zero : (n : ℕ) (f : ℕ → ℕ) → ((i : ℕ) → i < n → f i ≡ 0) → total n f ≡ 0
+unfolding total
+total-zero zero f h = refl
+total-zero (suc n) f h = omega (arith, h n (omega arith), total-zero n f (λ i l. h i (omega arith)))
 
 -- more places, no smaller sum
 pub total-grows : (f : ℕ → ℕ) (m n : ℕ) → m ≤ n → total m f ≤ total n f

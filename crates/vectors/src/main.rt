@@ -1,10 +1,12 @@
-// Runs the outside vectors. Each line of the input is a letter and a number, and is answered by one line, as the modules say. The stored output is
-// not ours: the script make beside src/ works it out from another calendar and from the tables of the source documents.
+// Runs the outside vectors. Each line of the input is a letter and a number, and is answered by one line or by none, as the modules say. The stored output is
+// not ours: the script make beside src/ works it out from another calendar, from the tables of the source documents and from another recorder.
 mod moments;
+mod recorders;
 mod tariffs;
 
 use libc::STDIN_FILENO;
-use libc::STDOUT_FILENO;
+use recorders::Desk;
+use recorders::first_desk;
 
 // What has been read of a line.
 struct Line {
@@ -12,24 +14,29 @@ struct Line {
     number: u32,
 }
 
-fn answer(line: Line) {
-    let kind = line.kind;
+// The line that is being read, and the recorder with what belongs to it.
+struct Work {
+    line: Line,
+    desk: Desk,
+}
+
+fn answer(desk: Desk, kind: u8, number: u32) -> Desk {
     match kind {
-        b'd' => moments::write_moment(line.number),
-        b't' => tariffs::write_tariffs(line.number),
-        _ => {
-            io::write_all(STDOUT_FILENO, b"unknown vector\n");
+        b'd' => {
+            moments::write_moment(number);
+            desk
         }
+        b't' => {
+            tariffs::write_tariffs(number);
+            desk
+        }
+        _ => recorders::answer(desk, kind, number),
     }
 }
 
 // The line with one byte more. No vector has a number past 32 bits; one that had would be cut to them.
 fn with_byte(line: Line, byte: u8) -> Line {
     match byte {
-        b'\n' => {
-            answer(line);
-            Line { kind: 0, number: 0 }
-        }
         b'0'..=b'9' => Line {
             kind: line.kind,
             number: (((line.number as u64) * 10 + ((byte - b'0') as u64)) % 4294967296) as u32,
@@ -42,17 +49,25 @@ fn with_byte(line: Line, byte: u8) -> Line {
     }
 }
 
-fn with_bytes(line: Line, bytes: &[u8]) -> Line {
-    let mut now = line;
+fn with_bytes(work: Work, bytes: &[u8]) -> Work {
+    let mut line = work.line;
+    let mut desk = work.desk;
     for i in 0..bytes.len() {
-        now = with_byte(now, bytes[i]);
+        if bytes[i] == b'\n' {
+            desk = answer(desk, line.kind, line.number);
+            line = Line { kind: 0, number: 0 };
+        } else {
+            line = with_byte(line, bytes[i]);
+        }
     }
-    now
+    Work { line, desk }
 }
 
 // A proved loop has to end, and nothing says that the input does. So it counts its turns down, from a number that no run uses up.
 fn main() {
-    let mut line = Line { kind: 0, number: 0 };
+    let desk = first_desk();
+    let line = Line { kind: 0, number: 0 };
+    let mut work = Work { line, desk };
     let mut turns = u64::MAX;
     while turns > 0 {
         let mut buffer = io::buffer();
@@ -61,7 +76,7 @@ fn main() {
             return;
         }
         let n = io::count(got, &buffer);
-        line = with_bytes(line, &buffer[..n]);
+        work = with_bytes(work, &buffer[..n]);
         turns -= 1;
     }
 }

@@ -4,10 +4,10 @@ use Rattle.vectors.proofs.main.Statement.{statement}
 use Rattle.vectors.proofs.main.Tie as tie
 
 abbrev Inv-loop : tie.InvT-loop
-Inv-loop line₀ turns₀ line turns = Unit {0}
+Inv-loop work₀ turns₀ work turns = Unit {0}
 
 abbrev μ-loop : tie.MeasureT-loop
-μ-loop line₀ turns₀ line turns = turns
+μ-loop work₀ turns₀ work turns = turns
 
 pub main-spec : {M : Type 1} → statement M
 main-spec =
@@ -15,6 +15,7 @@ main-spec =
     (tie.spec
     Inv-loop
     μ-loop
+    (λ c κs. search needs)
     (λ c. search needs)
     (λ c κs. search needs)
     (λ c. search needs)

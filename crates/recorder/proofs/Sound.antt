@@ -1,0 +1,247 @@
+-- Every state that calls can reach is sound: by induction over the calls.
+use mathlib.Core.Path.{_≡_, refl, sym, ap, _∙_}
+use mathlib.Core.Bool.{Bool, true, false, _||_}
+use mathlib.Core.List.{List, [], _∷_}
+use Prim.Native.Nat.{ℕ, zero, suc, _+_, _<_, _≤_}
+use native.Mathlib.Nat.{add-zero, mod-lt, zero-lt-suc}
+use native.Mathlib.Omega.{arith}
+use lib.Dec.{ltb, leb, eqb}
+use lib.IntN.{ℤ}
+use lib.ListN.{length, getD, length-set, length-replicate, getD-replicate}
+use borrow.Author.Tests.{ltb-true, ltb-false, leb-true, leb-false, eqb-true, ne-eqb}
+use Rattle.laws.specs.If.{if_then_else_, if-cases}
+use Rattle.laws.specs.Tests.{by-test}
+use Rattle.laws.specs.Answers.{Answer, given, refused}
+use Rattle.laws.specs.Any.{any-not}
+use Rattle.laws.specs.Masks.{bitAt}
+use Rattle.laws.specs.Tables.{table, table-at, length-table}
+use Rattle.calendar.specs.Moments.{momentOf}
+use Rattle.calendar.specs.declared.Moment.{Moment}
+use Rattle.tariff.specs.Rules.{forceMapAt}
+use Rattle.image.specs.declared.Config.{Config}
+use Rattle.image.specs.declared.Input.{Input}
+use Rattle.image.specs.declared.Register.{Register}
+use Rattle.recorder.specs.Filter.{inputAt, lineAt, nextRun, filtered, filteredAt, steppedOf}
+use Rattle.recorder.specs.Units.{remainderOf, credited, creditIf, creditedAt, creditsOf}
+use Rattle.recorder.specs.Bills.{registerAt, billAt, fills, billed, dueAt, fillsAt, billedAt, bookedOf}
+use Rattle.recorder.specs.Periods.{multiple, cleared, clearedAt, clearedLines, tickOf}
+use Rattle.recorder.specs.Samples.{bookingOf, activeLines, bookingOn, putIn, countedOf, clockEnd, sampleOf}
+use Rattle.recorder.specs.Clock.{setTo, setDated, setOf, closedBill, closedBillAt, resetOf}
+use Rattle.recorder.specs.Meters.{readingOf}
+use Rattle.recorder.specs.Calls.{freshState, replyTo}
+use Rattle.recorder.specs.History.{Call, sample, set as set-call, reading, reset, after, afterAll, freshStart}
+use Rattle.recorder.specs.Laws.{SoundLines, SoundBills, Sound, ReachedIsSound, ConfigStays}
+use Rattle.recorder.specs.declared.Line.{Line}
+use Rattle.recorder.specs.declared.Bill.{Bill}
+use Rattle.recorder.specs.declared.State.{State}
+use Rattle.recorder.specs.declared.Recorder.{Recorder}
+use Rattle.recorder.proofs.Books.{not-full}
+
+-- a run after the filter is at most 256
+run-held : (run : ℕ) (on : Bool) → nextRun run on ≤ 256
+run-held run true = if-cases (λ n. n ≤ 256) (ltb run 256) (λ e. omega (arith, ltb-true run 256 e)) (λ e. omega arith)
+run-held run false = omega arith
+
+-- what is left of a denominator is below it
+remainder-below : (input : Input) (remainder : ℕ) → 0 < input .denominator → remainderOf input remainder < input .denominator
+unfolding remainderOf
+remainder-below input remainder h =
+    let some : input .denominator ≡ 0 → ⊥ = omega arith in
+    rw (ne-eqb (input .denominator) 0 some) (mod-lt (remainder + input .numerator) h)
+
+-- a line with an impulse, or without one, keeps its run
+credited-run : (input : Input) (line : Line) (on : Bool) → line .run ≤ 256 → creditIf input line on .run ≤ 256
+unfolding creditIf credited
+credited-run input line true h = h
+credited-run input line false h = h
+
+-- and has a remainder below the denominator
+credited-remainder : (input : Input) (line : Line) (on : Bool) → 0 < input .denominator → line .remainder < input .denominator
+    → creditIf input line on .remainder < input .denominator
+unfolding creditIf credited
+credited-remainder input line true d h = remainder-below input (line .remainder) d
+credited-remainder input line false d h = h
+
+-- lines after a sample
+booked-lines : (c : Config) (clock : ℕ) (lines : List Line) (bills : List Bill) (mask : ℕ) → SoundLines (c .inputs) lines
+    → SoundLines (c .inputs) (bookingOf c clock lines bills mask .lines)
+unfolding bookingOf creditsOf steppedOf creditedAt filteredAt filtered
+booked-lines c clock lines bills mask h =
+    let stepped = table 16 (filteredAt (c .inputs) lines mask) in
+    let impulses = steppedOf (c .inputs) lines mask .impulses in
+    let now = creditedAt (c .inputs) stepped impulses in
+    record {
+      sixteen = length-table 16 now;
+      runs = λ i l.
+          rw (table-at 16 now i _ l)
+          (credited-run (inputAt (c .inputs) i) (lineAt stepped i) (bitAt impulses i) (rw (table-at 16 (filteredAt (c .inputs) lines mask) i _ l) (run-held (lineAt lines i .run) (bitAt mask i))));
+      remainders = λ i l d.
+          rw (table-at 16 now i _ l)
+          (credited-remainder (inputAt (c .inputs) i) (lineAt stepped i) (bitAt impulses i) d (rw (table-at 16 (filteredAt (c .inputs) lines mask) i _ l) (h .remainders i l d)));
+    }
+
+-- lines at the start of a period
+cleared-lines : (inputs : List Input) (lines : List Line) → SoundLines inputs lines → SoundLines inputs (clearedLines lines)
+unfolding clearedLines clearedAt cleared
+cleared-lines inputs lines h =
+    record {
+      sixteen = length-table 16 (clearedAt lines);
+      runs = λ i l. rw (table-at 16 (clearedAt lines) i _ l) (h .runs i l);
+      remainders = λ i l d. rw (table-at 16 (clearedAt lines) i _ l) (h .remainders i l d);
+    }
+
+-- a bill that is booked without being full
+billed-within : (bill : Bill) (due : ℕ) → fills bill due ≡ false → bill .amount ≤ 999_999_999 → billed bill due .amount ≤ 999_999_999
+unfolding billed
+billed-within bill due e h =
+    rw e
+    (by-test (ltb 0 due) (λ l. not-full bill due e (ltb-true 0 due l))
+    (λ g. let none : due ≡ 0 = omega (arith, ltb-false 0 due g) in rw (none, add-zero) h))
+
+-- bill j after a sample that does not fill it
+one-bill : (registers : List Register) (bills : List Bill) (map : ℕ) (sums : List ℕ) (j : ℕ) → fillsAt registers bills map sums j ≡ false
+    → billAt bills j .amount ≤ 999_999_999 → billedAt registers bills map sums j .amount ≤ 999_999_999
+unfolding fillsAt billedAt
+one-bill registers bills map sums j e h = billed-within (billAt bills j) (dueAt registers map sums j) e h
+
+-- bill j after a billing reset
+one-reset : (registers : List Register) (bills : List Bill) (clock j : ℕ) → billAt bills j .amount ≤ 999_999_999
+    → closedBillAt registers bills clock j .amount ≤ 999_999_999
+unfolding closedBillAt closedBill
+one-reset registers bills clock j h = if-cases (λ (b : Bill). b .amount ≤ 999_999_999) (ltb (registerAt registers j .sum) 8) (λ e. omega arith) (λ e. h)
+
+-- bills after a sample that was not refused
+booked-bills : (registers : List Register) (bills : List Bill) (map : ℕ) (sums : List ℕ) → bookedOf registers bills map sums .full ≡ false
+    → SoundBills bills → SoundBills (bookedOf registers bills map sums .bills)
+unfolding bookedOf
+booked-bills registers bills map sums e h =
+    record {
+      sixteen = length-table 16 (billedAt registers bills map sums);
+      amounts = λ j l. rw (table-at 16 (billedAt registers bills map sums) j _ l) (one-bill registers bills map sums j (any-not 16 (fillsAt registers bills map sums) e j l) (h .amounts j l));
+    }
+
+module _ (c : Config) (s : State) (h : Sound c s) where
+  -- a state after the step
+  ticked-sound : Sound c (tickOf c s)
+  unfolding tickOf
+  ticked-sound =
+      if-cases (Sound c) (multiple (c .period) (s .clock + 1))
+      (λ e. record { lines = cleared-lines (c .inputs) (s .lines) (h .lines); bills = h .bills; meters = h .meters; samples = zero-lt-suc 99 })
+      (λ e. record { lines = h .lines; bills = h .bills; meters = h .meters; samples = zero-lt-suc 99 })
+
+  -- a state with one more sample counted
+  counted-sound : Sound c (countedOf c s)
+  unfolding countedOf
+  counted-sound =
+      if-cases (Sound c) (leb 99 (s .samples)) (λ e. ticked-sound)
+      (λ e. let few = leb-false 99 (s .samples) e in record { lines = h .lines; bills = h .bills; meters = h .meters; samples = omega arith })
+
+  -- a state after a clock set
+  set-sound : (time : ℕ) → Sound c (setTo c s time)
+  unfolding setTo
+  set-sound time = record { lines = cleared-lines (c .inputs) (s .lines) (h .lines); bills = h .bills; meters = h .meters; samples = zero-lt-suc 99 }
+
+  -- a state after a billing reset
+  reset-sound : Sound c (resetOf c s)
+  unfolding resetOf
+  reset-sound =
+      let fresh = closedBillAt (c .registers) (s .bills) (s .clock) in
+      record {
+        lines = h .lines;
+        bills = record {
+          sixteen = length-table 16 fresh;
+          amounts = λ j l. rw (table-at 16 fresh j _ l) (one-reset (c .registers) (s .bills) (s .clock) j (h .bills .amounts j l));
+        };
+        meters = h .meters;
+        samples = h .samples;
+      }
+
+module _ (c : Config) (s : State) (h : Sound c s) where
+  -- a state with a sample booked that was not refused
+  booked-sound : (mask : ℕ) → bookingOf c (s .clock) (s .lines) (s .bills) mask .full ≡ false
+      → Sound c (putIn s (s .clock) (s .samples) (bookingOf c (s .clock) (s .lines) (s .bills) mask .lines) (bookingOf c (s .clock) (s .lines) (s .bills) mask .bills))
+  unfolding bookingOf
+  booked-sound mask e =
+      record {
+        lines = booked-lines c (s .clock) (s .lines) (s .bills) mask (h .lines);
+        bills = booked-bills (c .registers) (s .bills) (forceMapAt (c .program) (s .clock)) _ e (h .bills);
+        meters = h .meters;
+        samples = h .samples;
+      }
+
+  -- the state after a sample, taken or refused
+  sample-sound : (bits : ℕ) → Sound c (replyTo s (sampleOf c s bits) .state)
+  unfolding sampleOf
+  sample-sound bits =
+      let b = bookingOn c s bits in
+      if-cases (λ a. Sound c (replyTo s a .state)) (clockEnd s) (λ e. h)
+      (λ e.
+      if-cases (λ a. Sound c (replyTo s a .state)) (b .full) (λ f. h)
+      (λ f. counted-sound c (putIn s (s .clock) (s .samples) (b .lines) (b .bills)) (booked-sound (activeLines (c .inputs) bits) f)))
+
+  -- the state after a clock set
+  dated-sound : (time : ℕ) (a : Answer Moment) → Sound c (replyTo s (setDated a (setTo c s time)) .state)
+  dated-sound time (given m) = set-sound c s h time
+  dated-sound time (refused n offset) = h
+
+  -- the state after a reading
+  reading-sound : (meter : ℕ) (value : ℤ) (status seq : ℕ) → Sound c (replyTo s (readingOf c s meter value status seq) .state)
+  unfolding readingOf
+  reading-sound meter value status seq =
+      if-cases (λ a. Sound c (replyTo s a .state)) (ltb 31 meter) (λ e. h)
+      (λ e.
+      if-cases (λ a. Sound c (replyTo s a .state)) (eqb (getD (c .limits) meter 0) 0) (λ f. h)
+      (λ f.
+      if-cases (λ a. Sound c (replyTo s a .state)) (ltb 7 status || ltb 31 seq) (λ g. h)
+      (λ g. record { lines = h .lines; bills = h .bills; meters = simp length-set (h .meters); samples = h .samples })))
+
+-- the state after a call
+after-sound : (r : Recorder) (call : Call) → Sound (r .config) (r .state) → Sound (r .config) (after r call .state)
+unfolding setOf
+after-sound r (sample bits) h = sample-sound (r .config) (r .state) h bits
+after-sound r (set-call time) h = dated-sound (r .config) (r .state) h time (momentOf time)
+after-sound r (reading meter value status seq) h = reading-sound (r .config) (r .state) h meter value status seq
+after-sound r reset h = reset-sound (r .config) (r .state) h
+
+-- a call leaves the configuration
+after-config : (r : Recorder) (call : Call) → after r call .config ≡ r .config
+after-config r (sample bits) = refl
+after-config r (set-call time) = refl
+after-config r (reading meter value status seq) = refl
+after-config r reset = refl
+
+pub config-stays : ConfigStays
+unfolding afterAll
+config-stays c time [] = refl
+config-stays c time (call ∷ earlier) = after-config (afterAll (freshStart c time) earlier) call ∙ config-stays c time earlier
+
+-- a line with nothing on it
+abbrev noLine : Line
+noLine = record { run = 0; rejected = 0; remainder = 0; units = 0 }
+
+-- a bill with nothing on it
+abbrev noBill : Bill
+noBill = record { amount = 0; closed = 0; stamp = 0; reset = false }
+
+-- a fresh state is sound
+fresh-sound : (c : Config) (time : ℕ) → Sound c (freshState time)
+unfolding freshState
+fresh-sound c time =
+    record {
+      lines = record {
+        sixteen = length-replicate 16 noLine;
+        runs = λ i l. rw (getD-replicate 16 i noLine noLine l) (omega arith);
+        remainders = λ i l d. rw (getD-replicate 16 i noLine noLine l) d;
+      };
+      bills = record { sixteen = length-replicate 16 noBill; amounts = λ j l. rw (getD-replicate 16 j noBill noBill l) (omega arith) };
+      meters = refl;
+      samples = zero-lt-suc 99;
+    }
+
+pub reached-is-sound : ReachedIsSound
+unfolding afterAll
+reached-is-sound c time [] = fresh-sound c time
+reached-is-sound c time (call ∷ earlier) =
+    let r = afterAll (freshStart c time) earlier in
+    let fixed = config-stays c time earlier in
+    rw fixed at (after-sound r call (rw fixed (reached-is-sound c time earlier)))

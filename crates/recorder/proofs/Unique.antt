@@ -1,0 +1,157 @@
+-- No second result fits the contract of a public function of the recorder.
+use mathlib.Core.Path.{_≡_, refl, sym, ap, _∙_}
+use Prim.Native.Nat.{ℕ}
+use lib.Dec.{eqb}
+use Rattle.laws.specs.Answers.{Answer, given, refused}
+use Rattle.laws.specs.If.{if_then_else_}
+use Rattle.laws.specs.Unique.{OneResult, told-apart}
+use Rattle.recorder.specs.Samples.{numberOf}
+use Rattle.recorder.specs.Meters.{ageNumber, ageSaid}
+use Rattle.recorder.specs.Calls.{StartAnswered, startNumber, setNumber, readingNumber, Answered, RunAnswered}
+use Rattle.recorder.specs.declared.SampleAnswer.{SampleAnswer}
+use Rattle.recorder.specs.declared.SampleAnswer.the-variants.{Taken, ClockEnd, Full}
+use Rattle.recorder.specs.declared.StartAnswer.{StartAnswer}
+use Rattle.recorder.specs.declared.StartAnswer.the-variants as start
+use Rattle.recorder.specs.declared.calls.SetAnswer.{SetAnswer}
+use Rattle.recorder.specs.declared.calls.SetAnswer.the-variants as set
+use Rattle.recorder.specs.declared.calls.ReadingAnswer.{ReadingAnswer}
+use Rattle.recorder.specs.declared.calls.ReadingAnswer.the-variants as reading
+use Rattle.recorder.specs.declared.meters.Age.{Age}
+use Rattle.recorder.specs.declared.meters.Age.the-variants as age
+use Rattle.recorder.specs.declared.meters.AgeAnswer.{AgeAnswer}
+use Rattle.recorder.specs.declared.meters.AgeAnswer.the-variants as answer
+use Rattle.recorder.proofs.Recorder.start.Reads as start-reads
+use Rattle.recorder.proofs.Recorder.sample.Reads as sample-reads
+use Rattle.recorder.proofs.Recorder.samples.Reads as samples-reads
+use Rattle.recorder.proofs.Recorder.set_clock.Reads as set-clock-reads
+use Rattle.recorder.proofs.Recorder.reading.Reads as reading-reads
+use Rattle.recorder.proofs.Recorder.reset_bills.Reads as reset-bills-reads
+use Rattle.recorder.proofs.meters.age_class.Reads as age-class-reads
+use Rattle.recorder.proofs.meters.age_answer.Reads as age-answer-reads
+
+-- document 01's number tells all answers to a sample apart
+pub sample-apart : (x y : SampleAnswer) → numberOf x ≡ numberOf y → x ≡ y
+sample-apart = told-apart numberOf back told
+  where
+    back : ℕ → SampleAnswer
+    back n = if eqb n 5 then ClockEnd else if eqb n 6 then Full else Taken
+
+    told : (x : SampleAnswer) → back (numberOf x) ≡ x
+    told Taken = refl
+    told ClockEnd = refl
+    told Full = refl
+
+-- all answers to a clock set
+pub set-apart : (x y : SetAnswer) → setNumber x ≡ setNumber y → x ≡ y
+set-apart = told-apart setNumber back told
+  where
+    back : ℕ → SetAnswer
+    back n = if eqb n 9 then set.NoDate else set.Set
+
+    told : (x : SetAnswer) → back (setNumber x) ≡ x
+    told set.Set = refl
+    told set.NoDate = refl
+
+-- all answers to a reading
+pub reading-apart : (x y : ReadingAnswer) → readingNumber x ≡ readingNumber y → x ≡ y
+reading-apart = told-apart readingNumber back told
+  where
+    back : ℕ → ReadingAnswer
+    back n = if eqb n 7 then reading.NoMeter else if eqb n 8 then reading.NotFitted else if eqb n 10 then reading.BadReading else reading.Booked
+
+    told : (x : ReadingAnswer) → back (readingNumber x) ≡ x
+    told reading.Booked = refl
+    told reading.NoMeter = refl
+    told reading.NotFitted = refl
+    told reading.BadReading = refl
+
+-- all classes of age
+pub age-apart : (x y : Age) → ageNumber x ≡ ageNumber y → x ≡ y
+age-apart = told-apart ageNumber back told
+  where
+    back : ℕ → Age
+    back n = if eqb n 1 then age.Stale else if eqb n 2 then age.Invalid else if eqb n 3 then age.Never else age.Awake
+
+    told : (x : Age) → back (ageNumber x) ≡ x
+    told age.Awake = refl
+    told age.Stale = refl
+    told age.Invalid = refl
+    told age.Never = refl
+
+-- all answers to a host
+pub age-answer-apart : (x y : AgeAnswer) → ageSaid x ≡ ageSaid y → x ≡ y
+age-answer-apart (answer.Class a) (answer.Class b) e = ap answer.Class (age-apart a b (cc))
+age-answer-apart (answer.Class a) answer.NotFitted e = cc
+age-answer-apart (answer.Class a) answer.BadStatus e = cc
+age-answer-apart answer.NotFitted (answer.Class b) e = cc
+age-answer-apart answer.NotFitted answer.NotFitted e = refl
+age-answer-apart answer.NotFitted answer.BadStatus e = cc
+age-answer-apart answer.BadStatus (answer.Class b) e = cc
+age-answer-apart answer.BadStatus answer.NotFitted e = cc
+age-answer-apart answer.BadStatus answer.BadStatus e = refl
+
+-- all answers to a start
+pub start-apart : (x y : StartAnswer) → startNumber x ≡ startNumber y → x ≡ y
+start-apart = told-apart startNumber back told
+  where
+    numbered : ℕ → ℕ → StartAnswer
+    numbered n offset =
+        if eqb n 1 then start.Length else if eqb n 2 then start.Mark else if eqb n 3 then start.Version
+        else if eqb n 4 then start.Value offset else start.NoDate
+
+    back : Answer (Unit {0}) → StartAnswer
+    back (given u) = start.Started
+    back (refused n offset) = numbered n offset
+
+    told : (x : StartAnswer) → back (startNumber x) ≡ x
+    told start.Started = refl
+    told start.Length = refl
+    told start.Mark = refl
+    told start.Version = refl
+    told (start.Value offset) = refl
+    told start.NoDate = refl
+
+pub start-once : OneResult start-reads.Post
+start-once κs a x y e f p q =
+    let s = p ∙ sym q in
+    let answer = start-apart (x .answer) (y .answer) (ap (λ (r : StartAnswered). r .answer) s) in
+    let recorder = ap (λ (r : StartAnswered). r .recorder) s in
+    (λ i. record { answer = answer i; recorder = recorder i })
+
+pub sample-once : OneResult sample-reads.Post
+sample-once κs a x y e f p q =
+    let s = p ∙ sym q in
+    let answer = sample-apart (x .answer) (y .answer) (ap (λ (r : Answered). r .number) s) in
+    let recorder = ap (λ (r : Answered). r .recorder) s in
+    (λ i. record { answer = answer i; recorder = recorder i })
+
+pub samples-once : OneResult samples-reads.Post
+samples-once κs a x y e f p q =
+    let s = p ∙ sym q in
+    let taken = ap (λ (r : RunAnswered). r .taken) s in
+    let answer = sample-apart (x .answer) (y .answer) (ap (λ (r : RunAnswered). r .number) s) in
+    let recorder = ap (λ (r : RunAnswered). r .recorder) s in
+    (λ i. record { taken = taken i; answer = answer i; recorder = recorder i })
+
+pub set-clock-once : OneResult set-clock-reads.Post
+set-clock-once κs a x y e f p q =
+    let s = p ∙ sym q in
+    let answer = set-apart (x .answer) (y .answer) (ap (λ (r : Answered). r .number) s) in
+    let recorder = ap (λ (r : Answered). r .recorder) s in
+    (λ i. record { answer = answer i; recorder = recorder i })
+
+pub reading-once : OneResult reading-reads.Post
+reading-once κs a x y e f p q =
+    let s = p ∙ sym q in
+    let answer = reading-apart (x .answer) (y .answer) (ap (λ (r : Answered). r .number) s) in
+    let recorder = ap (λ (r : Answered). r .recorder) s in
+    (λ i. record { answer = answer i; recorder = recorder i })
+
+pub reset-bills-once : OneResult reset-bills-reads.Post
+reset-bills-once κs a x y e f p q = p ∙ sym q
+
+pub age-class-once : OneResult age-class-reads.Post
+age-class-once κs a x y e f p q = age-apart x y (p ∙ sym q)
+
+pub age-answer-once : OneResult age-answer-reads.Post
+age-answer-once κs a x y e f p q = age-answer-apart x y (p ∙ sym q)

@@ -1,0 +1,101 @@
+-- Lines 5, 6 and 7 of document 01's table: runs, units and bills of input 0, as samples of a fresh recorder make them.
+use mathlib.Core.Path.{_≡_, refl}
+use mathlib.Core.Bool.{true, false}
+use mathlib.Core.List.{List, [], _∷_, _++_}
+use Prim.Native.Nat.{ℕ, zero, suc}
+use lib.IntN.{pos}
+use lib.ListN.{getD, replicate, take, drop}
+use Rattle.laws.specs.Each.{Each}
+use Rattle.laws.specs.First.{first}
+use Rattle.laws.specs.Any.{any}
+use Rattle.laws.specs.Total.{total}
+use Rattle.laws.specs.Spans.{span}
+use Rattle.laws.specs.Masks.{maskOf, bitAt}
+use Rattle.laws.specs.Tables.{table}
+use Rattle.calendar.specs.Dates.{monthLength, yearLength}
+use Rattle.calendar.specs.Moments.{yearDay, momentOf}
+use Rattle.tariff.specs.Daily.{windowActive, dailyActive}
+use Rattle.tariff.specs.Weekly.{fitsAt, firstHoliday, columnOn, referenceAt, weeklyActive}
+use Rattle.tariff.specs.Seasons.{inSeason, seasonActive}
+use Rattle.tariff.specs.Rules.{applies, inForce, forceMap, forceOf}
+use Rattle.tariff.specs.declared.Program.{Program}
+use Rattle.image.specs.declared.Config.{Config}
+use Rattle.recorder.specs.Filter.{lineAt, accepted, filtered, filteredAt, acceptedAt, steppedOf}
+use Rattle.recorder.specs.Units.{unitsOf, remainderOf, credited, creditIf, unitsIf, creditedAt, unitsAt, creditsOf}
+use Rattle.recorder.specs.Bills.{billAt, namedPart, sumOf, sumAt, sumsOf, registerUnits, dueOf, fills, billed, dueAt, fillsAt, billedAt, bookedOf}
+use Rattle.recorder.specs.Levels.{level0At, level0, termAt, level2, inputValue, sumValue, functionValue, slotValue, slotValueAt, slotValues}
+use Rattle.recorder.specs.Periods.{multiple, cleared, clearedAt, clearedLines, closedAs, tickOf}
+use Rattle.recorder.specs.Samples.{bookingOf, activeAt, activeLines, countedOf, sampleOf, samplesOf}
+use Rattle.recorder.specs.Calls.{freshState}
+use Rattle.recorder.specs.declared.State.{State}
+
+-- a tariff program: rule A in the minutes before noon, rule B after them, each day
+abbrev twoTariffs : Program
+twoTariffs =
+    record {
+      windows = record { first = 0; end = 720 } ∷ replicate 3 (record { first = 0; end = 0 }) ++ (record { first = 720; end = 1440 } ∷ replicate 123 (record { first = 0; end = 0 }));
+      weeks = replicate 8 0 ++ (replicate 8 1 ++ replicate 112 255);
+      seasons = replicate 8 (record { first = record { day = 0; month = 0 }; second = record { day = 0; month = 0 } });
+      holidays = replicate 32 (record { day = 0; month = 0; year = 0 });
+      rules = record { season = 255; week = 0 } ∷ (record { season = 255; week = 1 } ∷ replicate 14 (record { season = 255; week = 255 }));
+    }
+
+-- input 0 is S1a with runs from shortest to longest and a factor; sum 0 names it; bill registers 0, 1 and 2 are on that sum with rule A, rule B and none
+abbrev oneInput : ℕ → ℕ → ℕ → ℕ → Config
+oneInput shortest longest numerator denominator =
+    record {
+      period = 15;
+      inputs = record { kind = 1; shortest = shortest; longest = longest; numerator = numerator; denominator = denominator } ∷ replicate 15 (record { kind = 0; shortest = 0; longest = 0; numerator = 0; denominator = 0 });
+      sums = 1 ∷ replicate 7 0;
+      coefficients = replicate 32 (pos 0);
+      slots = replicate 16 (record { level = 255; index = 0 });
+      limits = replicate 32 0;
+      program = twoTariffs;
+      registers = record { sum = 0; rule = 0 } ∷ (record { sum = 0; rule = 1 } ∷ (record { sum = 0; rule = 255 } ∷ replicate 13 (record { sum = 255; rule = 255 })));
+    }
+
+-- the state after samples from a fresh start at a time
+abbrev afterSamples : Config → ℕ → List ℕ → State
+afterSamples c time bits = samplesOf c (freshState time) bits .state
+
+-- impulses of one sample each
+abbrev impulses : ℕ → List ℕ
+impulses zero = []
+impulses (suc n) = 1 ∷ (0 ∷ impulses n)
+
+-- a case of the table: a run of some samples is accepted or rejected; impulses give units and leave a remainder; bills of two tariffs
+pub data Case : Type 0 where
+  run-of : ℕ → ℕ → ℕ → Case
+  impulses-give : ℕ → ℕ → ℕ → Case
+  tariffs-get : ℕ → ℕ → ℕ → Case
+
+-- what a case claims, with runs from 3 to 8 and a factor of 1; with a factor of 3/10; with three impulses before noon and one after it
+abbrev pub Claim : Case → Type 0
+Claim (run-of n units rejected) =
+    let line = lineAt (afterSamples (oneInput 3 8 1 1) 0 (replicate n 1 ++ (0 ∷ [])) .lines) 0 in
+    (line .units ≡ units) × (line .rejected ≡ rejected)
+Claim (impulses-give n units remainder) =
+    let line = lineAt (afterSamples (oneInput 1 255 3 10) 0 (impulses n) .lines) 0 in
+    (line .units ≡ units) × (line .remainder ≡ remainder)
+Claim (tariffs-get a b none) =
+    let bills = afterSamples (oneInput 1 255 3 10) 43_199 (impulses 3 ++ (replicate 94 0 ++ impulses 1)) .bills in
+    (billAt bills 0 .amount ≡ a) × (billAt bills 1 .amount ≡ b) × (billAt bills 2 .amount ≡ none)
+
+-- lines 5, 6 and 7
+abbrev pub cases : List Case
+cases =
+    run-of 2 0 1
+    ∷ run-of 3 1 0
+    ∷ run-of 8 1 0
+    ∷ run-of 9 0 1
+    ∷ impulses-give 1 0 3
+    ∷ impulses-give 2 0 6
+    ∷ impulses-give 3 0 9
+    ∷ impulses-give 4 1 2
+    ∷ tariffs-get 0 1 1
+    ∷ []
+
+-- all of them hold: antt computes both sides of each
+pub cases-hold : Each Claim cases
+unfolding first any total span maskOf bitAt table monthLength yearLength yearDay momentOf windowActive dailyActive fitsAt firstHoliday columnOn referenceAt weeklyActive inSeason seasonActive applies inForce forceMap forceOf accepted filtered filteredAt acceptedAt steppedOf unitsOf remainderOf credited creditIf unitsIf creditedAt unitsAt creditsOf namedPart sumOf sumAt sumsOf registerUnits dueOf fills billed dueAt fillsAt billedAt bookedOf level0At level0 termAt level2 inputValue sumValue functionValue slotValue slotValueAt slotValues multiple cleared clearedAt clearedLines closedAs tickOf bookingOf activeAt activeLines countedOf sampleOf samplesOf freshState
+cases-hold = ((refl, refl), ((refl, refl), ((refl, refl), ((refl, refl), ((refl, refl), ((refl, refl), ((refl, refl), ((refl, refl), ((refl, refl, refl), tt)))))))))

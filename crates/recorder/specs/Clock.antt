@@ -1,0 +1,61 @@
+-- "A clock set (any value, the present one also) closes the period at the old time as short, sets the clock and starts second and period anew." And: "A billing reset notes each open bill
+-- amount and the clock as closed and sets the open amount to 0; remainders and period go on."
+use mathlib.Core.Bool.{true}
+use mathlib.Core.List.{List}
+use Prim.Native.Nat.{ℕ}
+use lib.Dec.{ltb}
+use Rattle.laws.specs.If.{if_then_else_}
+use Rattle.laws.specs.Answers.{Answer, given, refused}
+use Rattle.laws.specs.Tables.{table}
+use Rattle.calendar.specs.Moments.{momentOf}
+use Rattle.calendar.specs.declared.Moment.{Moment}
+use Rattle.image.specs.declared.Config.{Config}
+use Rattle.image.specs.declared.Register.{Register}
+use Rattle.recorder.specs.Bills.{registerAt, billAt}
+use Rattle.recorder.specs.Periods.{clearedLines, closedAs}
+use Rattle.recorder.specs.declared.Bill.{Bill}
+use Rattle.recorder.specs.declared.State.{State}
+
+-- the state set to a time: the period closes at the old time as short, 1; second and period start anew
+unfoldable pub setTo : Config → State → ℕ → State
+setTo c s time =
+    record {
+      clock = time;
+      samples = 0;
+      first = time;
+      lines = clearedLines (s .lines);
+      bills = s .bills;
+      meters = s .meters;
+      closed = closedAs c 1 (s .clock) (s .lines);
+    }
+
+-- a clock set: 9 where the time has no date
+abbrev pub setDated : Answer Moment → State → Answer State
+setDated (given m) next = given next
+setDated (refused n offset) next = refused n offset
+
+-- the same by the time
+unfoldable pub setOf : Config → State → ℕ → Answer State
+setOf c s time = setDated (momentOf time) (setTo c s time)
+
+-- a bill register in use is closed: the open amount is noted with the clock, and begins anew
+unfoldable pub closedBill : Register → Bill → ℕ → Bill
+closedBill register bill clock =
+    if ltb (register .sum) 8 then record { amount = 0; closed = bill .amount; stamp = clock; reset = true } else bill
+
+-- bill j after a billing reset
+unfoldable pub closedBillAt : List Register → List Bill → ℕ → ℕ → Bill
+closedBillAt registers bills clock j = closedBill (registerAt registers j) (billAt bills j) clock
+
+-- a billing reset closes every register in use at once; all else goes on
+unfoldable pub resetOf : Config → State → State
+resetOf c s =
+    record {
+      clock = s .clock;
+      samples = s .samples;
+      first = s .first;
+      lines = s .lines;
+      bills = table 16 (closedBillAt (c .registers) (s .bills) (s .clock));
+      meters = s .meters;
+      closed = s .closed;
+    }

@@ -1,0 +1,142 @@
+// Clock set, reading and billing reset, on the configuration and the state.
+use crate::Bill;
+use crate::Meter;
+use crate::State;
+use crate::clock::cleared;
+use crate::clock::close_period;
+use calendar::Dated;
+use image::Config;
+use image::Register;
+ghost use mathlib.Core.Path.{_≡_};
+ghost use Rattle.recorder.specs.Clock.{setTo, setOf, closedBill, resetOf};
+ghost use Rattle.recorder.specs.Meters.{readingOf};
+ghost use Rattle.recorder.specs.Calls.{replyTo, setSaid, readingSaid};
+
+pub enum SetAnswer {
+    Set,
+    NoDate,
+}
+
+pub struct Setting {
+    pub answer: SetAnswer,
+    pub state: State,
+}
+
+pub enum ReadingAnswer {
+    Booked,
+    NoMeter,
+    NotFitted,
+    BadReading,
+}
+
+pub struct Reading {
+    pub answer: ReadingAnswer,
+    pub state: State,
+}
+
+// The period closes at the old time as short; second and period start anew.
+fn set_to(config: Config, state: State, time: u32) -> State
+    ensures { λ r. ⌜ r ≡ setTo config state time ⌝ }
+{
+    let lines = state.lines;
+    let closed = close_period(config, 1, state.clock, lines);
+    let fresh = cleared(lines);
+    let mut next = state;
+    next.clock = time;
+    next.samples = 0;
+    next.first = time;
+    next.lines = fresh;
+    next.closed = closed;
+    next
+}
+
+pub(crate) fn set(config: Config, state: State, time: u32) -> Setting
+    ensures { λ r. ⌜ setSaid r ≡ replyTo state (setOf config state time) ⌝ }
+{
+    match calendar::moment_of(time) {
+        Dated::On(_) => {
+            let next = set_to(config, state, time);
+            Setting {
+                answer: SetAnswer::Set,
+                state: next,
+            }
+        }
+        Dated::NoDate => Setting {
+            answer: SetAnswer::NoDate,
+            state,
+        },
+    }
+}
+
+// A refused reading leaves the state, its stamps too.
+pub(crate) fn read(
+    config: Config,
+    state: State,
+    meter: u8,
+    value: i32,
+    status: u8,
+    seq: u8,
+) -> Reading
+    ensures { λ r. ⌜ readingSaid r ≡ replyTo state (readingOf config state meter value status seq) ⌝ }
+{
+    let place = meter as usize;
+    if place > 31 {
+        return Reading {
+            answer: ReadingAnswer::NoMeter,
+            state,
+        };
+    }
+    if config.limits[place] == 0 {
+        return Reading {
+            answer: ReadingAnswer::NotFitted,
+            state,
+        };
+    }
+    if (status > 7) | (seq > 31) {
+        return Reading {
+            answer: ReadingAnswer::BadReading,
+            state,
+        };
+    }
+    let mut next = state;
+    next.meters[place] = Meter {
+        read: true,
+        stamp: state.clock,
+        value,
+        status,
+        seq,
+    };
+    Reading {
+        answer: ReadingAnswer::Booked,
+        state: next,
+    }
+}
+
+// The open amount of a register in use is noted with the clock, and begins anew.
+fn close_bill(register: Register, bill: Bill, clock: u32) -> Bill
+    ensures { λ r. ⌜ r ≡ closedBill register bill clock ⌝ }
+{
+    if register.sum < 8 {
+        return Bill {
+            amount: 0,
+            closed: bill.amount,
+            stamp: clock,
+            reset: true,
+        };
+    }
+    bill
+}
+
+pub(crate) fn reset(config: Config, state: State) -> State
+    ensures { λ r. ⌜ r ≡ resetOf config state ⌝ }
+{
+    let registers = config.registers;
+    let bills = state.bills;
+    let mut fresh = bills;
+    for j in 0..16usize {
+        fresh[j] = close_bill(registers[j], bills[j], state.clock);
+    }
+    let mut next = state;
+    next.bills = fresh;
+    next
+}

@@ -9,6 +9,7 @@ pub mod Total
 pub mod SignedTotal
 pub mod Spans
 pub mod Masks
+pub mod Counts
 pub mod BitTests
 pub mod Tables
 pub mod Each

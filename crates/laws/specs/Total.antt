@@ -48,3 +48,9 @@ total-grows f m zero h = let e : m ≡ 0 = omega arith in rw e (le-refl 0)
 total-grows f m (suc n) h =
     ⊎-elim (λ e. rw e (le-refl _)) (λ l. let g : total m f ≤ total n f = total-grows f m n (le-of-suc-le-suc l) in omega arith)
     (eq-or-lt-of-le h)
+
+-- the sum of two parts at each place
+pub total-plus : (n : ℕ) (f g : ℕ → ℕ) → total n (λ i. f i + g i) ≡ total n f + total n g
+unfolding total
+total-plus zero f g = refl
+total-plus (suc n) f g = omega (arith, total-plus n f g)

@@ -55,8 +55,8 @@ enum {
  *     unsigned refusal = answer >> 16;       1 to 4, as above; 0 where the image is accepted
  *     unsigned offset = answer & 0xffff;     the first byte of the entry to blame
  *
- * They are tested in the order of their numbers. The offset of 4 is that of the first entry, in the order of the image, that breaks its rule, from 5 to 1,124; that of 3
- * is 3, that of 1 and 2 is 0. So the only answers are 0, 0x10000, 0x20000, 0x30003 and 0x40005 to 0x40464.
+ * They are tested in the order of their numbers. The offset of 4 is that of the first entry, in the order of the image, that breaks its rule, from 5
+ * to 1,124; that of 3 is 3, that of 1 and 2 is 0. So the only answers are 0, 0x10000, 0x20000, 0x30003 and 0x40005 to 0x40464.
  */
 uint32_t recorder_image_check(const uint8_t *image, size_t length);
 
@@ -87,8 +87,8 @@ uint64_t recorder_calendar(uint32_t seconds);
  * status  The reading's STATUS, 0 to 7: 1 IV (invalid), 2 CA, 4 CY, added.
  * clock   The present second of the clock.
  *
- * Answers a refusal, tested before anything else, also where there was no reading: 8 for limit 0, then 10 for a STATUS above 7. Else the class, tested in this
- * order: 3 never, 1 stale, 2 invalid, 0 awake. A reading that is exactly `limit` seconds old is not stale, and neither is one whose stamp lies
+ * Answers a refusal, tested before anything else, also where there was no reading: 8 for limit 0, then 10 for a STATUS above 7. Else the class, tested in
+ * this order: 3 never, 1 stale, 2 invalid, 0 awake. A reading that is exactly `limit` seconds old is not stale, and neither is one whose stamp lies
  * ahead of the clock. Classes are below RECORDER_NOT_FITTED, refusals are not.
  */
 uint32_t recorder_age_class(uint32_t limit, uint32_t read, uint32_t stamp, uint32_t status, uint32_t clock);

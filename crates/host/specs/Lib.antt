@@ -1,0 +1,2 @@
+-- What the C functions answer: each answer of the crates below as one number.
+pub mod Host

@@ -207,6 +207,86 @@ function age(i) {
   return status[i] % 2 ? 2 : 0
 }
 
+# The n bytes of a whole number in hexadecimal, the least significant first. A negative number has no last digit: it ends in as many ff as there is room for, and
+# that is two's complement.
+function bytes(v, n, b, text) {
+  for (text = ""; n > 0; n--) {
+    b = (v % 256 + 256) % 256
+    text = text sprintf("%02x", b)
+    v = (v - b) / 256
+  }
+  return text
+}
+
+# Group 82. IV is the lowest bit.
+function serial(i, iv) {
+  iv = status[i] % 2
+  if (age(i) != 0) iv = 1
+  return bytes(read_at[i], 4) bytes(reading[i], 4) bytes(status[i] - status[i] % 2 + iv, 1) bytes(seq[i], 1)
+}
+
+function tariff_map(i, map) {
+  map = 0
+  for (i = 0; i < 16; i++) if (in_force(i)) map += 2 ^ i
+  return map
+}
+
+function weekly_active(i) {
+  date()
+  return daily_active(image[774 + 8 * i + place()])
+}
+
+# Group 204: how many meters of each class there are, and what those awake add up to.
+function fleet(i, class, count, total) {
+  for (class = 0; class < 4; class++) count[class] = 0
+  total = 0
+  for (i = 0; i < 32; i++) if (fitted_meter(i)) {
+    count[age(i)]++
+    if (age(i) == 0) total += reading[i]
+  }
+  return bytes(count[0] + count[1] + count[2] + count[3], 1) bytes(count[0], 1) bytes(count[1], 1) bytes(count[2], 1) bytes(count[3], 1) bytes(total, 8)
+}
+
+function fitted_meter(i) { return two_bytes(198 + 2 * i) != 0 }
+
+function in_use(group, i) {
+  if (group == 82) return fitted_meter(i)
+  if (group == 201) return image[166 + 2 * i] != 255
+  if (group == 202) return image[1094 + 2 * i] != 255
+  if (group == 203) return kind[i] != 0
+  return 1
+}
+
+# What 01's table has for a register.
+function contents(group, i) {
+  if (group == 82) return serial(i)
+  if (group == 89) return bytes(tariff_map(), 2)
+  if (group == 90) return bytes(daily_active(i), 1)
+  if (group == 91) return bytes(weekly_active(i), 1)
+  if (group == 201) return bytes(state, 1) bytes(stamp, 4) bytes(value[i], 8)
+  if (group == 202) return bytes(was_reset[i], 1) bytes(open[i], 4) bytes(closed[i], 4) bytes(closed_at[i], 4)
+  if (group == 203) return bytes(rejected[i], 2) bytes(remainder[i], 2)
+  if (group == 204) return fleet()
+  return bytes(clock, 4) bytes(held, 1)
+}
+
+# The answer to a request, and the buffer after it: 32 bytes, all a5 before, of which the first `room` are lent.
+function register(group, i, room, refusal, text) {
+  text = ""
+  refusal = 0
+  if (!(group in registers)) refusal = 11
+  else if (i >= registers[group]) refusal = 12
+  else if (!in_use(group, i)) refusal = 8
+  else {
+    text = contents(group, i)
+    if (length(text) / 2 > room) {
+      text = ""
+      refusal = 13
+    }
+  }
+  return refusal " " length(text) / 2 " " text substr(untouched, length(text) + 1)
+}
+
 function taken(count, n, refusal) {
   for (n = 0; n < count; n++) if ((refusal = sample()) != 0) return n " " refusal
   return count " 0"
@@ -233,11 +313,19 @@ function answer(letter, n) {
   if (letter == "b") return sprintf("%.0f %.0f %.0f %d", open[n], closed[n], closed_at[n], was_reset[n])
   if (letter == "v") return sprintf("%d %.0f %.0f", state, stamp, value[n])
   if (letter == "e") return sprintf("%d %.0f %.0f %d %d %d", was_read[n], read_at[n], reading[n], status[n], seq[n], age(n))
+  if (letter == "r") return register(n % 1024, int(n / 1024) % 1024, int(n / 1048576))
   print "no such call: " letter | "cat 1>&2"
   exit 1
 }
 
-BEGIN { dated = -1 }
+BEGIN {
+  dated = -1
+  # The groups, and how many registers each has.
+  registers[82] = registers[90] = 32
+  registers[91] = registers[201] = registers[202] = registers[203] = 16
+  registers[89] = registers[204] = registers[206] = 1
+  for (untouched = ""; length(untouched) < 64; ) untouched = untouched "a5"
+}
 $1 == "o" { at = $2; next }
 $1 == "i" { byte[at++] = $2 + 0; next }
 $1 == "m" { next_reading = $2; next }

@@ -10,6 +10,8 @@
 // - `h 0`: clock, samples of the second, first second of the period.
 // - `l I`: line I: run, rejected, remainder, units. `b I`: bill register I: open, closed, stamp, whether reset.
 // - `v I`: level 9: state, stamp, value of slot I. `e I`: meter I: whether read, stamp, value, STATUS, SEQ, age class (0 awake, 1 stale, 2 invalid, 3 never).
+// - `r N`: a request of group N % 1024, register N / 1024 % 1024, with a buffer of N / 1048576 bytes (at most 32): refusal or 0, how many bytes were given, and
+//   32 bytes in hexadecimal. The buffer is the first of these; all were 165 (a5) before the request, so that it is seen which ones it has written.
 use libc::STDOUT_FILENO;
 use recorder::Age;
 use recorder::Meter;
@@ -18,6 +20,8 @@ use recorder::Recorder;
 use recorder::SampleAnswer;
 use recorder::SetAnswer;
 use recorder::StartAnswer;
+use registers::RegisterAnswer;
+ghost use Prim.Native.Nat.{_≤_};
 
 // The recorder, the image that is being put together and the place of its next byte, and the next reading's meter.
 pub struct Desk {
@@ -358,6 +362,56 @@ fn write_meter(desk: Desk, i: usize) {
     }
 }
 
+fn register_refusal(answer: RegisterAnswer) -> u64 {
+    match answer {
+        RegisterAnswer::Given(_) => 0,
+        RegisterAnswer::NoGroup => 11,
+        RegisterAnswer::NoRegister => 12,
+        RegisterAnswer::NotFitted => 8,
+        RegisterAnswer::NoRoom => 13,
+    }
+}
+
+fn register_bytes(answer: RegisterAnswer) -> u64 {
+    match answer {
+        RegisterAnswer::Given(bytes) => bytes as u64,
+        _ => 0,
+    }
+}
+
+// The last hexadecimal digit of n.
+fn hex_digit(n: u8) -> u8 {
+    let d = n % 16;
+    if d < 10 { b'0' + d } else { b'a' + (d - 10) }
+}
+
+fn write_bytes(bytes: [u8; 32]) {
+    let mut text = [b' '; 65];
+    for i in 0..32usize {
+        let byte = bytes[i];
+        text[2 * i + 1] = hex_digit(byte / 16);
+        text[2 * i + 2] = hex_digit(byte);
+    }
+    io::write_all(STDOUT_FILENO, &text);
+}
+
+fn room_of(n: u32) -> usize
+    ensures { λ r. ⌜ r ≤ 32 ⌝ }
+{
+    let room = (n / 1048576) as usize;
+    if room < 32 { room } else { 32 }
+}
+
+fn write_register(desk: Desk, n: u32) {
+    let recorder = desk.recorder;
+    let room = room_of(n);
+    let mut bytes = [165u8; 32];
+    let answer = registers::read_register(recorder, n % 1024, n / 1024 % 1024, &mut bytes[..room]);
+    write_number(register_refusal(answer));
+    write_number(register_bytes(answer));
+    write_bytes(bytes);
+}
+
 // What only looks.
 fn look(desk: Desk, kind: u8, n: u32) {
     match kind {
@@ -366,6 +420,7 @@ fn look(desk: Desk, kind: u8, n: u32) {
         b'b' => write_bill(desk, n as usize),
         b'v' => write_value(desk, n as usize),
         b'e' => write_meter(desk, n as usize),
+        b'r' => write_register(desk, n),
         _ => {
             io::write_all(STDOUT_FILENO, b" unknown vector");
         }

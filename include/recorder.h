@@ -5,8 +5,8 @@
  * The functions are in libhost.a, for x86-64 Linux (`rt staticlib host`). Each is proved against its contract in crates/host.
  *
  * - They answer every input: nothing has to be checked before a call, but for the pointer of recorder_image_check.
- * - They allocate nothing, write to no memory but their own stack (less than 4 KiB), keep nothing from one call to the next and read no clock. So
- *   threads may call them at the same time.
+ * - They allocate nothing, write to no memory but their own stack, keep nothing from one call to the next and read no clock. So threads may call them at
+ *   the same time.
  * - The same arguments always give the same answer.
  * - They need memcpy of the C library, and nothing else.
  */

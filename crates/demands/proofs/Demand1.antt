@@ -1,0 +1,284 @@
+-- Demand 1: each call test by test, and what a refusal leaves.
+use mathlib.Core.Path.{_≡_, refl, sym, ap, _∙_}
+use mathlib.Core.Bool.{Bool, true, false, true≢false, not, _&&_, _||_}
+use mathlib.Core.List.{List, [], _∷_, _++_}
+use mathlib.Core.Logic.{_⊎_, inl, inr, ⊎-elim}
+use Prim.Native.Nat.{ℕ, zero, suc, _+_, _*_, _/_, _<_, _≤_}
+use native.Mathlib.Nat.{le-refl}
+use native.Mathlib.Omega.{arith}
+use borrow.Author.Tests.{eqb-true, eqb-false, eq-eqb, ne-eqb, ltb-true, ltb-false, lt-ltb, le-ltb, leb-true, leb-false, le-leb, lt-leb}
+use lib.Dec.{eqb, ltb, leb}
+use lib.IntN.{ℤ}
+use lib.ListN.{length, getD, drop}
+use Rattle.laws.specs.If.{if_then_else_}
+use Rattle.laws.specs.Tests.{by-test, and-left, and-right, and-both, or-right}
+use Rattle.laws.specs.Any.{any, any-at, any-not}
+use Rattle.laws.specs.Answers.{Answer, given, refused}
+use Rattle.laws.specs.Broken.{firstBroken}
+use Rattle.laws.specs.Bytes.{le}
+use Rattle.laws.specs.Each.{Each}
+use Rattle.calendar.specs.Moments.{yearDay, momentOf}
+use Rattle.calendar.specs.declared.Moment.{Moment}
+use Rattle.image.specs.Image.{decode}
+use Rattle.image.specs.Check.{Section, sections, FirstBadAt, firstBad, checked}
+use Rattle.image.specs.Answers.{marked, imageAnswer, imageConfig, writeAnswer, afterWrite}
+use Rattle.image.specs.declared.Config.{Config}
+use Rattle.image.proofs.Found.{value-exactly}
+use Rattle.recorder.specs.Bills.{fills, fillsAt, bookedOf}
+use Rattle.recorder.specs.Samples.{bookingOf, bookingOn, clockEnd, sampleOf}
+use Rattle.recorder.specs.Clock.{setOf}
+use Rattle.recorder.specs.Meters.{classOf, ageOf, readingOf}
+use Rattle.recorder.specs.Calls.{startReply, sampleReply, setReply, readingReply, replyTo}
+use Rattle.recorder.specs.declared.Recorder.{Recorder}
+use Rattle.recorder.specs.declared.Bill.{Bill}
+use Rattle.recorder.specs.declared.State.{State}
+use Rattle.registers.specs.Registers.{Group, groups, lookUp, groupOf, registersOf, fitted, replyOf, registerReply}
+use Rattle.registers.proofs.Groups.{none-found}
+use Rattle.registers.proofs.Laws.{refused-leaves}
+use Rattle.demands.specs.Demand1.{Refusal, at, Ordered, numbered, imageRefusals, noDate, unitsFor, sampleRefusals, readingRefusals, bytesIn, registerRefusals, writeRefusals, ageRefusals, NumbersExact, RefusedChangesNothing, Demand1}
+
+-- a refusal whose condition is a test, and what comes after it
+next : {A : Type 0} (n o : ℕ) {when : Type 0} (rest : List Refusal) (test : Bool) (a : Answer A)
+    → (test ≡ true → when) → (test ≡ false → when → ⊥) → (test ≡ true → a ≡ refused n o) → (test ≡ false → Ordered rest a)
+    → Ordered (at n o when ∷ rest) a
+unfolding Ordered
+next n o rest test a due not-due is after =
+    by-test test (λ t. inl (o, (refl, due t), is t)) (λ f. inr ((λ offset d. not-due f (d .1)), after f))
+
+-- where no refusal is due the answer is given
+done : {A : Type 0} (x : A) (a : Answer A) → a ≡ given x → Ordered [] a
+unfolding Ordered
+done x a e = (x, e)
+
+-- whether an answer is given
+abbrev is-given : {A : Type 0} → Answer A → Bool
+is-given (given x) = true
+is-given (refused n o) = false
+
+-- a check finds nothing, or a bad entry, which is 4
+good-or-4 : (ss : List Section) → (firstBad ss ≡ given tt) ⊎ ((o : ℕ) × (firstBad ss ≡ refused 4 o))
+unfolding firstBad
+good-or-4 [] = inl refl
+good-or-4 (s ∷ ss) =
+    by-test (ltb (firstBroken (s .count) (s .good)) (s .count))
+    (λ t. rw t (inr (s .base + s .size * firstBroken (s .count) (s .good), refl)))
+    (λ f. rw f (good-or-4 ss))
+
+-- 4 VALUE, and what comes after it
+value : (c : Config) (rest : List Refusal) (a : Answer (Unit {0}))
+    → ((offset : ℕ) → checked c ≡ refused 4 offset → a ≡ refused 4 offset)
+    → (checked c ≡ given tt → Ordered rest a)
+    → Ordered (record { number = 4; due = FirstBadAt (sections c) } ∷ rest) a
+unfolding Ordered checked
+value c rest a is after =
+    ⊎-elim
+    (λ good. inr ((λ offset bad. absurd (true≢false (ap is-given (sym good ∙ value-exactly c offset .1 bad)))), after good))
+    (λ bad. inl (bad .0, value-exactly c (bad .0) .0 (bad .1), is (bad .0) (bad .1)))
+    (good-or-4 (sections c))
+
+-- the letters, as a test
+letters : (b : List ℕ) → marked b ≡ true → (getD b 0 0 ≡ 75) × (getD b 1 0 ≡ 82) × (getD b 2 0 ≡ 67)
+letters b t =
+    let k = eqb (getD b 0 0) 75 in
+    let r = eqb (getD b 1 0) 82 in
+    let c = eqb (getD b 2 0) 67 in
+    let front : (k && r) ≡ true = and-left (k && r) c t in
+    (eqb-true _ _ (and-left k r front), eqb-true _ _ (and-right k r front), eqb-true _ _ (and-right (k && r) c t))
+
+-- a test turned round
+not-true : (b : Bool) → not b ≡ true → b ≡ false
+not-true true e = sym e
+not-true false e = refl
+
+not-false : (b : Bool) → not b ≡ false → b ≡ true
+not-false true e = refl
+not-false false e = sym e
+
+-- an image's refusals, and what comes after them: `a` answers as the image does where that is refused
+image-then : (b : List ℕ) (rest : List Refusal) (a : Answer (Unit {0})) → ((n o : ℕ) → imageAnswer b ≡ refused n o → a ≡ refused n o)
+    → (imageAnswer b ≡ given tt → Ordered rest a) → Ordered (imageRefusals b ++ rest) a
+unfolding imageAnswer
+image-then b rest a is after =
+    next 1 0 _ (not (eqb (length b) 1126)) a
+    (λ t e. true≢false (sym (eq-eqb _ _ e) ∙ not-true _ t)) (λ f other. other (eqb-true _ _ (not-false _ f)))
+    (λ t. is 1 0 (rw (not-true (eqb (length b) 1126) t)))
+    (λ f.
+    let long = not-false (eqb (length b) 1126) f in
+    next 2 0 _ (not (marked b)) a
+    (λ t e. true≢false (sym (and-both _ _ (and-both _ _ (eq-eqb _ _ (e .0)) (eq-eqb _ _ (e .1))) (eq-eqb _ _ (e .2))) ∙ not-true _ t))
+    (λ g other. other (letters b (not-false _ g)))
+    (λ t. is 2 0 (rw (long, not-true (marked b) t)))
+    (λ g.
+    let mark = not-false (marked b) g in
+    next 3 3 _ (not (eqb (le 2 (drop 3 b)) 1)) a
+    (λ t e. true≢false (sym (eq-eqb _ _ e) ∙ not-true _ t)) (λ h other. other (eqb-true _ _ (not-false _ h)))
+    (λ t. is 3 3 (rw (long, mark, not-true (eqb (le 2 (drop 3 b)) 1) t)))
+    (λ h.
+    let version = not-false (eqb (le 2 (drop 3 b)) 1) h in
+    value (decode b) rest a
+    (λ o e. is 4 o (rw (long, mark, version) e))
+    (λ e. after (rw (long, mark, version) e)))))
+
+pub images : (b : List ℕ) → Ordered (imageRefusals b) (imageAnswer b)
+images b = image-then b [] (imageAnswer b) (λ n o e. e) (λ e. done tt _ e)
+
+-- a time without a date is refused with 9
+no-date-9 : (time n o : ℕ) → momentOf time ≡ refused n o → momentOf time ≡ refused 9 0
+unfolding momentOf
+no-date-9 time n o e =
+    by-test (ltb (1970 + yearDay (time / 86_400) .years) 2107)
+    (λ t. absurd (true≢false (ap is-given (rw t at e)))) (λ f. rw f)
+
+-- a refusal for want of a date, and what comes after it
+date-then : {A : Type 0} (time : ℕ) (rest : List Refusal) (a : Answer A) → (momentOf time ≡ refused 9 0 → a ≡ refused 9 0)
+    → ((m : Moment) → momentOf time ≡ given m → Ordered rest a) → Ordered (noDate time ∷ rest) a
+unfolding Ordered
+date-then {A} time rest a is after = go (momentOf time) refl
+  where
+    go : (m : Answer Moment) → momentOf time ≡ m → Ordered (noDate time ∷ rest) a
+    go (given m) e = inr ((λ offset d. d .1 m e), after m e)
+    go (refused n o) e = inl (0, (refl, λ m f. true≢false (sym (ap is-given (sym e ∙ f)))), is (no-date-9 time n o e))
+
+pub starts : (b : List ℕ) (time : ℕ) → Ordered (imageRefusals b ++ (noDate time ∷ [])) (startReply b time .answer)
+starts b time =
+    image-then b (noDate time ∷ []) (startReply b time .answer) (λ n o e. rw e)
+    (λ e. date-then time [] (startReply b time .answer) (λ d. rw (e, d)) (λ m d. done tt _ (rw (e, d))))
+
+pub sets : (r : Recorder) (time : ℕ) → Ordered (noDate time ∷ []) (numbered (setReply r time .number))
+unfolding setOf
+sets r time = date-then time [] (numbered (setReply r time .number)) (λ d. rw d) (λ m d. done tt _ (rw d))
+
+or-left : (a b : Bool) → b ≡ false → (a || b) ≡ true → a ≡ true
+or-left true b f e = refl
+or-left false b f e = sym f ∙ e
+
+-- some place at which a test holds
+any-some : (n : ℕ) (p : ℕ → Bool) → any n p ≡ true → (j : ℕ) × (j < n) × (p j ≡ true)
+unfolding any
+any-some zero p e = absurd (true≢false (sym e))
+any-some (suc n) p e =
+    by-test (p n) (λ t. (n, le-refl (suc n), t))
+    (λ f.
+    let rest = any-some n p (or-left _ _ f e) in
+    let l = rest .1 in
+    (rest .0, omega arith, rest .2))
+
+-- a register is filled
+full-some : (bill : Bill) (due : ℕ) → fills bill due ≡ true → (0 < due) × (999_999_999 < bill .amount + due)
+unfolding fills
+full-some bill due t =
+    let some = ltb 0 due in
+    let past = ltb 999_999_999 (bill .amount + due) in
+    (ltb-true _ _ (and-left some past t), ltb-true _ _ (and-right some past t))
+
+full-is : (bill : Bill) (due : ℕ) → 0 < due → 999_999_999 < bill .amount + due → fills bill due ≡ true
+unfolding fills
+full-is bill due some past = and-both _ _ (lt-ltb _ _ some) (lt-ltb _ _ past)
+
+pub samples : (r : Recorder) (bits : ℕ) → Ordered (sampleRefusals r bits) (numbered (sampleReply r bits .number))
+unfolding sampleOf bookingOf bookedOf fillsAt
+samples r bits =
+    next 5 0 _ (clockEnd (r .state)) _
+    (λ t.
+    let last = eqb (r .state .clock) 4_294_967_295 in
+    let hundredth = leb 99 (r .state .samples) in
+    (eqb-true _ _ (and-left last hundredth t), leb-true _ _ (and-right last hundredth t)))
+    (λ f e. true≢false (sym (and-both _ _ (eq-eqb _ _ (e .0)) (le-leb _ _ (e .1))) ∙ f))
+    (λ t. rw t)
+    (λ f.
+    let full = bookingOn (r .config) (r .state) bits .full in
+    next 6 0 _ full _
+    (λ t. let some = any-some 16 _ t in (some .0, some .1, full-some _ _ (some .2) .0, full-some _ _ (some .2) .1))
+    (λ g e. true≢false (sym (full-is _ _ (e .2) (e .3)) ∙ any-not 16 _ g (e .0) (e .1)))
+    (λ t. rw (f, t)) (λ g. done tt _ (rw (f, g))))
+
+pub readings : (r : Recorder) (meter : ℕ) (v : ℤ) (status seq : ℕ)
+    → Ordered (readingRefusals r meter status seq) (numbered (readingReply r meter v status seq .number))
+unfolding readingOf
+readings r meter v status seq =
+    next 7 0 _ (ltb 31 meter) _ (λ t. ltb-true _ _ t) (λ f l. true≢false (sym (lt-ltb _ _ l) ∙ f)) (λ t. rw t)
+    (λ f.
+    next 8 0 _ (eqb (getD (r .config .limits) meter 0) 0) _ (λ t. eqb-true _ _ t) (λ g e. eqb-false _ _ g e) (λ t. rw (f, t))
+    (λ g.
+    next 10 0 _ (ltb 7 status || ltb 31 seq) _
+    (λ t. by-test (ltb 7 status) (λ a. inl (ltb-true _ _ a)) (λ a. inr (ltb-true _ _ (or-right _ _ a t))))
+    (λ h. ⊎-elim (λ l. true≢false (sym (or-first (ltb 7 status) (ltb 31 seq) (lt-ltb _ _ l)) ∙ h)) (λ l. true≢false (sym (or-second (ltb 7 status) (ltb 31 seq) (lt-ltb _ _ l)) ∙ h)))
+    (λ t. rw (f, g, t)) (λ h. done tt _ (rw (f, g, h)))))
+  where
+    or-first : (a b : Bool) → a ≡ true → (a || b) ≡ true
+    or-first a b e = rw e
+
+    or-second : (a b : Bool) → b ≡ true → (a || b) ≡ true
+    or-second true b e = refl
+    or-second false b e = e
+
+pub ages : (limit : ℕ) (read : Bool) (stamp status clock : ℕ) → Ordered (ageRefusals limit status) (ageOf limit read stamp status clock)
+unfolding ageOf
+ages limit read stamp status clock =
+    next 8 0 _ (eqb limit 0) _ (λ t. eqb-true _ _ t) (λ f e. eqb-false _ _ f e) (λ t. rw t)
+    (λ f. next 10 0 _ (ltb 7 status) _ (λ t. ltb-true _ _ t) (λ g l. true≢false (sym (lt-ltb _ _ l) ∙ g)) (λ t. rw (f, t)) (λ g. done (classOf limit read stamp status clock) _ (rw (f, g))))
+
+pub writes : (c : Config) (buffer : List ℕ) → Ordered (writeRefusals c buffer) (writeAnswer c (length buffer))
+unfolding writeAnswer
+writes c buffer =
+    value c _ (writeAnswer c (length buffer)) (λ o e. rw e)
+    (λ good. next 13 0 _ (ltb (length buffer) 1126) _ (λ t. ltb-true _ _ t) (λ f l. true≢false (sym (lt-ltb _ _ l) ∙ f)) (λ t. rw (good, t)) (λ f. done tt _ (rw (good, f))))
+
+-- a number that finds no line is in none
+not-in-table : (gs : List Group) (n m o : ℕ) → lookUp gs n ≡ refused m o → Each (λ g. n ≡ g .number → ⊥) gs
+unfolding lookUp
+not-in-table [] n m o e = tt
+not-in-table (g ∷ gs) n m o e =
+    by-test (eqb n (g .number))
+    (λ t. absurd (true≢false (ap is-given (rw t at e))))
+    (λ f. (eqb-false _ _ f, not-in-table gs n m o (rw f at e)))
+
+-- the refusals of a request of a group that is in the table
+in-table : (r : Recorder) (register : ℕ) (buffer : List ℕ) (g : Group)
+    → Ordered (at 12 0 (g .registers ≤ register) ∷ at 8 0 (g .inUse (r .config) register ≡ false) ∷ at 13 0 (length buffer < g .bytes) ∷ []) (replyOf (given g) r register buffer .answer)
+in-table r register buffer g =
+    next 12 0 _ (leb (g .registers) register) _ (λ t. leb-true _ _ t) (λ f l. true≢false (sym (le-leb _ _ l) ∙ f)) (λ t. rw t)
+    (λ f.
+    next 8 0 _ (not (g .inUse (r .config) register)) _ (λ t. not-true _ t) (λ h u. true≢false (sym (ap not u) ∙ h)) (λ t. rw (f, t))
+    (λ h.
+    next 13 0 _ (not (leb (g .bytes) (length buffer))) _ (λ t. leb-false _ _ (not-true _ t)) (λ k l. true≢false (sym (ap not (lt-leb _ _ l)) ∙ k)) (λ t. rw (f, h, t))
+    (λ k. done (g .bytes) _ (rw (f, h, k)))))
+
+pub registers : (r : Recorder) (group register : ℕ) (buffer : List ℕ)
+    → Ordered (registerRefusals r group register buffer) (registerReply r group register buffer .answer)
+unfolding Ordered registerReply
+registers r group register buffer = go (groupOf group) refl
+  where
+    go : (a : Answer Group) → groupOf group ≡ a → Ordered (registerRefusals r group register buffer) (replyOf (groupOf group) r register buffer .answer)
+    go (refused n o) e =
+        let none = not-in-table groups group n o e in
+        inl (0, (refl, none), ap (λ a. replyOf a r register buffer .answer) (none-found groups group none))
+    go (given g) e =
+        inr ((λ offset due. true≢false (ap is-given (sym e ∙ none-found groups group (due .1)))), rw e (in-table r register buffer g))
+
+pub numbers-exact : NumbersExact
+numbers-exact =
+    record { images = images; starts = starts; samples = samples; sets = sets; readings = readings; registers = registers; ages = ages; writes = writes }
+
+-- a refused call leaves the state
+reply-leaves : (s : State) (a : Answer State) → (replyTo s a .number ≡ 0 → ⊥) → replyTo s a .state ≡ s
+reply-leaves s (given next) h = absurd (h refl)
+reply-leaves s (refused n o) h = refl
+
+-- a recorder with a state put in
+abbrev beside-state : Recorder → State → Recorder
+beside-state r s = record { config = r .config; state = s }
+
+pub refused-changes-nothing : RefusedChangesNothing
+unfolding afterWrite
+refused-changes-nothing =
+    record {
+      samples = λ r bits h. ap (beside-state r) (reply-leaves (r .state) (sampleOf (r .config) (r .state) bits) h);
+      sets = λ r time h. ap (beside-state r) (reply-leaves (r .state) (setOf (r .config) (r .state) time) h);
+      readings = λ r meter v status seq h. ap (beside-state r) (reply-leaves (r .state) (readingOf (r .config) (r .state) meter v status seq) h);
+      registers = refused-leaves;
+      writes = λ c buffer n o e. rw e;
+    }
+
+pub demand-1 : Demand1
+demand-1 = record { numbers = numbers-exact; refused-changes-nothing = refused-changes-nothing }

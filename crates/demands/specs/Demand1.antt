@@ -1,0 +1,135 @@
+-- Demand 1: "Every image, sample, reading, time and register request ends with its result or with the numbered refusal that the rules name for it. A refusal changes nothing in the recorder and no byte
+-- of the buffer given for the result. No caller has to check anything first." That no function has a precondition is in Tightness.antt.
+use mathlib.Core.Path.{_≡_}
+use mathlib.Core.Bool.{Bool, false}
+use mathlib.Core.List.{List, [], _∷_, _++_}
+use mathlib.Core.Logic.{_⊎_}
+use Prim.Native.Nat.{ℕ, _+_, _<_, _≤_}
+use lib.Dec.{eqb}
+use lib.IntN.{ℤ}
+use lib.ListN.{length, getD, drop}
+use Rattle.laws.specs.If.{if_then_else_}
+use Rattle.laws.specs.Answers.{Answer, given, refused}
+use Rattle.laws.specs.Bytes.{le}
+use Rattle.laws.specs.Each.{Each}
+use Rattle.calendar.specs.Moments.{momentOf}
+use Rattle.calendar.specs.declared.Moment.{Moment}
+use Rattle.tariff.specs.Rules.{forceMapAt}
+use Rattle.image.specs.Image.{decode}
+use Rattle.image.specs.Check.{sections, FirstBadAt}
+use Rattle.image.specs.Answers.{imageAnswer, writeAnswer, afterWrite}
+use Rattle.image.specs.declared.Config.{Config}
+use Rattle.recorder.specs.Filter.{steppedOf}
+use Rattle.recorder.specs.Units.{creditsOf}
+use Rattle.recorder.specs.Bills.{billAt, sumsOf, dueAt}
+use Rattle.recorder.specs.Samples.{activeLines}
+use Rattle.recorder.specs.Meters.{ageOf}
+use Rattle.recorder.specs.Calls.{startReply, sampleReply, setReply, readingReply}
+use Rattle.recorder.specs.declared.Recorder.{Recorder}
+use Rattle.registers.specs.Registers.{Group, groups, groupOf, registersOf, fitted, registerReply}
+
+-- a refusal of document 01's table: its number, and when it is due, with which offset
+pub record Refusal : Type 1 where
+  pub number : ℕ
+  pub due : ℕ → Type 0
+
+-- one that always has the same offset
+abbrev pub at : ℕ → ℕ → Type 0 → Refusal
+at number offset when = record { number = number; due = λ o. (o ≡ offset) × when }
+
+-- "Given exactly when", in the order given: the answer is the first refusal that is due, with its offset; where none is due, it is what was asked for
+unfoldable pub Ordered : {A : Type 0} → List Refusal → Answer A → Type 0
+Ordered {A} [] answer = (x : A) × (answer ≡ given x)
+Ordered (r ∷ later) answer =
+    ((offset : ℕ) × r .due offset × (answer ≡ refused (r .number) offset))
+    ⊎ (((offset : ℕ) → r .due offset → ⊥) × Ordered later answer)
+
+-- a number as an answer: 0 is no refusal
+abbrev pub numbered : ℕ → Answer (Unit {0})
+numbered n = if eqb n 0 then given tt else refused n 0
+
+-- "1 LENGTH, 2 MARK, 3 VERSION: not 1,126 bytes; other letters; version not 1"; "4 VALUE: an entry breaks its rule; with the offset of the first such entry"
+abbrev pub imageRefusals : List ℕ → List Refusal
+imageRefusals b =
+    at 1 0 (length b ≡ 1126 → ⊥)
+    ∷ at 2 0 ((getD b 0 0 ≡ 75) × (getD b 1 0 ≡ 82) × (getD b 2 0 ≡ 67) → ⊥)
+    ∷ at 3 3 (le 2 (drop 3 b) ≡ 1 → ⊥)
+    ∷ record { number = 4; due = FirstBadAt (sections (decode b)) }
+    ∷ []
+
+-- "9 NO DATE: a start or set time has no calendar date"
+abbrev pub noDate : ℕ → Refusal
+noDate time = at 9 0 ((m : Moment) → momentOf time ≡ given m → ⊥)
+
+-- the units of a sample for bill register j: filter, units, sums, and the tariff at the present second
+abbrev pub unitsFor : Recorder → ℕ → ℕ → ℕ
+unitsFor r bits j =
+    let c = r .config in
+    let stepped = steppedOf (c .inputs) (r .state .lines) (activeLines (c .inputs) bits) in
+    let units = creditsOf (c .inputs) (stepped .lines) (stepped .impulses) .units in
+    dueAt (c .registers) (forceMapAt (c .program) (r .state .clock)) (sumsOf (c .sums) units) j
+
+-- "5 CLOCK END: hundredth sample in the last second"; "6 FULL: the sample would take a bill register past 999,999,999"
+abbrev pub sampleRefusals : Recorder → ℕ → List Refusal
+sampleRefusals r bits =
+    at 5 0 ((r .state .clock ≡ 4_294_967_295) × (99 ≤ r .state .samples))
+    ∷ at 6 0 ((j : ℕ) × (j < 16) × (0 < unitsFor r bits j) × (999_999_999 < billAt (r .state .bills) j .amount + unitsFor r bits j))
+    ∷ []
+
+-- "7 NO METER: meter above 31"; "8 NOT FITTED: meter .. not in use"; "10 READING: STATUS above 7 or SEQ above 31"
+abbrev pub readingRefusals : Recorder → ℕ → ℕ → ℕ → List Refusal
+readingRefusals r meter status seq =
+    at 7 0 (31 < meter)
+    ∷ at 8 0 (getD (r .config .limits) meter 0 ≡ 0)
+    ∷ at 10 0 ((7 < status) ⊎ (31 < seq))
+    ∷ []
+
+-- the bytes of a register of a group
+abbrev pub bytesIn : Answer Group → ℕ
+bytesIn (given g) = g .bytes
+bytesIn (refused n offset) = 0
+
+-- "11 NO GROUP, 12 NO REGISTER: not in the table above"; "8 NOT FITTED: meter, slot, bill register or input not in use"; "13 NO ROOM: the buffer is shorter than the register"
+abbrev pub registerRefusals : Recorder → ℕ → ℕ → List ℕ → List Refusal
+registerRefusals r group register buffer =
+    at 11 0 (Each (λ g. group ≡ g .number → ⊥) groups)
+    ∷ at 12 0 (registersOf group ≤ register)
+    ∷ at 8 0 (fitted (r .config) group register ≡ false)
+    ∷ at 13 0 (length buffer < bytesIn (groupOf group))
+    ∷ []
+
+-- "writing an image gives 4, with the offset the entry would have, then 13"
+abbrev pub writeRefusals : Config → List ℕ → List Refusal
+writeRefusals c buffer = record { number = 4; due = FirstBadAt (sections c) } ∷ at 13 0 (length buffer < 1126) ∷ []
+
+-- "The age class .. refuses limit 0 with 8, then STATUS above 7 with 10"
+abbrev pub ageRefusals : ℕ → ℕ → List Refusal
+ageRefusals limit status = at 8 0 (limit ≡ 0) ∷ at 10 0 (7 < status) ∷ []
+
+-- each call, on every recorder, ends with its result or with exactly the number that the rules name: "Order: start 1, 2, 3, 4, 9; sample 5, 6; reading 7, 8, 10; register 11, 12, 8, 13. Clock sets can give only 9"
+pub record NumbersExact : Type 0 where
+  pub images : (b : List ℕ) → Ordered (imageRefusals b) (imageAnswer b)
+  pub starts : (b : List ℕ) (time : ℕ) → Ordered (imageRefusals b ++ (noDate time ∷ [])) (startReply b time .answer)
+  pub samples : (r : Recorder) (bits : ℕ) → Ordered (sampleRefusals r bits) (numbered (sampleReply r bits .number))
+  pub sets : (r : Recorder) (time : ℕ) → Ordered (noDate time ∷ []) (numbered (setReply r time .number))
+  pub readings : (r : Recorder) (meter : ℕ) (value : ℤ) (status seq : ℕ)
+      → Ordered (readingRefusals r meter status seq) (numbered (readingReply r meter value status seq .number))
+  pub registers : (r : Recorder) (group register : ℕ) (buffer : List ℕ)
+      → Ordered (registerRefusals r group register buffer) (registerReply r group register buffer .answer)
+  pub ages : (limit : ℕ) (read : Bool) (stamp status clock : ℕ) → Ordered (ageRefusals limit status) (ageOf limit read stamp status clock)
+  pub writes : (c : Config) (buffer : List ℕ) → Ordered (writeRefusals c buffer) (writeAnswer c (length buffer))
+
+-- "A refused call changes no byte of any buffer lent to it", and nothing in the recorder
+pub record RefusedChangesNothing : Type 0 where
+  pub samples : (r : Recorder) (bits : ℕ) → (sampleReply r bits .number ≡ 0 → ⊥) → sampleReply r bits .recorder ≡ r
+  pub sets : (r : Recorder) (time : ℕ) → (setReply r time .number ≡ 0 → ⊥) → setReply r time .recorder ≡ r
+  pub readings : (r : Recorder) (meter : ℕ) (value : ℤ) (status seq : ℕ)
+      → (readingReply r meter value status seq .number ≡ 0 → ⊥) → readingReply r meter value status seq .recorder ≡ r
+  pub registers : (r : Recorder) (group register : ℕ) (buffer : List ℕ) (n offset : ℕ)
+      → registerReply r group register buffer .answer ≡ refused n offset → registerReply r group register buffer .buffer ≡ buffer
+  pub writes : (c : Config) (buffer : List ℕ) (n offset : ℕ) → writeAnswer c (length buffer) ≡ refused n offset → afterWrite c buffer ≡ buffer
+
+-- demand 1
+pub record Demand1 : Type 0 where
+  pub numbers : NumbersExact
+  pub refused-changes-nothing : RefusedChangesNothing

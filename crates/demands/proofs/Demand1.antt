@@ -123,7 +123,7 @@ pub images : (b : List ℕ) → Ordered (imageRefusals b) (imageAnswer b)
 images b = image-then b [] (imageAnswer b) (λ n o e. e) (λ e. done tt _ e)
 
 -- a time without a date is refused with 9
-no-date-9 : (time n o : ℕ) → momentOf time ≡ refused n o → momentOf time ≡ refused 9 0
+pub no-date-9 : (time n o : ℕ) → momentOf time ≡ refused n o → momentOf time ≡ refused 9 0
 unfolding momentOf
 no-date-9 time n o e =
     by-test (ltb (1970 + yearDay (time / 86_400) .years) 2107)

@@ -1,0 +1,3 @@
+-- The proofs of the owner's third demand.
+pub mod Sums
+pub mod Rounding

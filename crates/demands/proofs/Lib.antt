@@ -1,3 +1,5 @@
 -- The proofs of the owner's third demand.
 pub mod Sums
 pub mod Rounding
+pub mod Keeps
+pub mod Tracks

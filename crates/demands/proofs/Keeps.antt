@@ -229,7 +229,7 @@ pub set-step : (c : Config) (s : State) (seconds : ℕ)
 unfolding setOf momentOf
 set-step c s seconds =
     let P : Answer Moment → Type 0 = λ a.
-        SetStep (eqb (replyTo s (setDated a (setTo c s seconds)) .number) 0) seconds s (replyTo s (setDated a (setTo c s seconds)) .state) in
+    SetStep (eqb (replyTo s (setDated a (setTo c s seconds)) .number) 0) seconds s (replyTo s (setDated a (setTo c s seconds)) .state) in
     if-cases P (ltb (1970 + yearDay (seconds / 86_400) .years) 2107) (λ e. set-still c s seconds) (λ e. refl)
 
 -- A reading

@@ -3,3 +3,4 @@ pub mod Sums
 pub mod Rounding
 pub mod Keeps
 pub mod Tracks
+pub mod Demand3

@@ -4,3 +4,4 @@ pub mod Rounding
 pub mod Keeps
 pub mod Tracks
 pub mod Demand3
+pub mod Starts

@@ -8,11 +8,12 @@ use Rattle.laws.specs.Total.{total}
 use Rattle.laws.specs.Masks.{bit}
 use Rattle.laws.specs.Bytes.{Bytes}
 use Rattle.laws.specs.Answers.{given}
-use Rattle.image.specs.Answers.{imageAnswer, imageConfig}
+use Rattle.image.specs.Answers.{imageConfig}
 use Rattle.image.specs.declared.Config.{Config}
 use Rattle.recorder.specs.Filter.{inputAt}
 use Rattle.recorder.specs.Bills.{registerAt, partOf}
-use Rattle.recorder.specs.History.{Call}
+use Rattle.recorder.specs.Calls.{startReply}
+use Rattle.recorder.specs.History.{Call, freshStart}
 use Rattle.recorder.specs.Laws.{Good}
 use Rattle.demands.specs.Account.{Sample, eventsOf, closedOf, openOf, whole, since, booksAt, always, stretchesOf, feeding, countOf, scaleOf, energyOf, wholeUnitsOf}
 
@@ -21,9 +22,11 @@ pub record Accepted (c : Config) : Type 0 where
   pub good : Good c
   pub bytes : (i : ℕ) → i < 16 → inputAt (c .inputs) i .longest < 256
 
--- each accepted image gives one, so nothing more is asked of a configuration below than that a start took it
-abbrev pub ImageIsAccepted : Type 0
-ImageIsAccepted = (image : List ℕ) → Bytes image → imageAnswer image ≡ given tt → Accepted (imageConfig image)
+-- a start call that is answered without a refusal gives such a configuration and the fresh start of a history: so nothing more is asked below than what each start in the field has
+abbrev pub StartIsFresh : Type 0
+StartIsFresh =
+    (image : List ℕ) → Bytes image → (time : ℕ) → startReply image time .answer ≡ given tt
+    → Accepted (imageConfig image) × (startReply image time .recorder ≡ freshStart (imageConfig image) time)
 
 -- bill register j is in use: it is one of the sixteen, on one of the eight sums
 abbrev pub InUse : Config → ℕ → Type 0

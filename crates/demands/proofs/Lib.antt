@@ -1,6 +1,12 @@
 -- The proofs of the statements in specs/.
+pub mod Sums
+pub mod Rounding
+pub mod Keeps
+pub mod Tracks
+pub mod Starts
 pub mod Demand1
 pub mod Demand2
-pub mod Full
+pub mod Demand3
 pub mod Table
 pub mod Tightness
+pub mod Full

@@ -1,7 +1,8 @@
--- The owner's demands, stated for an auditor. Each statement has its proof in proofs/.
+-- The owner's demands, stated for an auditor: what a history says by itself, the three demands, the table, tightness, and examples. Each statement has its proof in proofs/.
 pub mod Account
 pub mod Demand1
 pub mod Demand2
-pub mod Full
+pub mod Demand3
 pub mod Table
 pub mod Tightness
+pub mod Full

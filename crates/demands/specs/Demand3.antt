@@ -1,0 +1,75 @@
+-- The owner's third demand: "Take any sequence of samples, clock sets, readings and billing resets from a fresh start." Each type below is a theorem, proved in proofs/Demand3.antt.
+use mathlib.Core.Path.{_≡_}
+use mathlib.Core.Bool.{Bool, true, _&&_}
+use mathlib.Core.List.{List}
+use Prim.Native.Nat.{ℕ, _+_, _*_, _<_}
+use Rattle.laws.specs.Each.{Each}
+use Rattle.laws.specs.Total.{total}
+use Rattle.laws.specs.Masks.{bit}
+use Rattle.laws.specs.Bytes.{Bytes}
+use Rattle.laws.specs.Answers.{given}
+use Rattle.image.specs.Answers.{imageConfig}
+use Rattle.image.specs.declared.Config.{Config}
+use Rattle.recorder.specs.Filter.{inputAt}
+use Rattle.recorder.specs.Bills.{registerAt, partOf}
+use Rattle.recorder.specs.Calls.{startReply}
+use Rattle.recorder.specs.History.{Call, freshStart}
+use Rattle.recorder.specs.Laws.{Good}
+use Rattle.demands.specs.Account.{Sample, eventsOf, closedOf, openOf, whole, since, booksAt, always, stretchesOf, feeding, countOf, scaleOf, energyOf, wholeUnitsOf}
+
+-- a configuration that the image check accepts: each entry keeps its rule, and the longest runs are bytes, as the image has them
+pub record Accepted (c : Config) : Type 0 where
+  pub good : Good c
+  pub bytes : (i : ℕ) → i < 16 → inputAt (c .inputs) i .longest < 256
+
+-- a start call that is answered without a refusal gives such a configuration and the fresh start of a history: so nothing more is asked below than what each start in the field has
+abbrev pub StartIsFresh : Type 0
+StartIsFresh =
+    (image : List ℕ) → Bytes image → (time : ℕ) → startReply image time .answer ≡ given tt
+    → Accepted (imageConfig image) × (startReply image time .recorder ≡ freshStart (imageConfig image) time)
+
+-- bill register j is in use: it is one of the sixteen, on one of the eight sums
+abbrev pub InUse : Config → ℕ → Type 0
+InUse c j = (j < 16) × (registerAt (c .registers) j .sum < 8)
+
+-- "bill register: .. tariff rule 0-15 or 255 for none"
+abbrev pub WithoutRule : Config → ℕ → Type 0
+WithoutRule c j = registerAt (c .registers) j .rule ≡ 255
+
+-- amount and energy "are compared as whole numbers, each multiplied by" the scale: they differ by less than one unit for each of `pieces`; with no piece both are 0
+pub record Near (amount energy scale pieces : ℕ) : Type 0 where
+  pub not-above : 0 < pieces → amount * scale < energy + pieces * scale
+  pub not-below : 0 < pieces → energy < amount * scale + pieces * scale
+  pub none : pieces ≡ 0 → (amount ≡ 0) × (energy ≡ 0)
+
+-- "An open bill amount with a tariff differs from the exact energy of the impulses booked while its tariff was in force, since the last reset, by less than one unit for each feeding input in
+-- each unbroken stretch of that tariff; with no stretch or no input it is zero." It holds without a tariff too: then every sample is booked.
+abbrev pub OpenAmount : Type 0
+OpenAmount =
+    (c : Config) → Accepted c → (time : ℕ) (calls : List Call) (j : ℕ) → InUse c j →
+    let samples = since c (eventsOf c time calls) in
+    let inputs = feeding c j in
+    Near (openOf c time j calls) (energyOf c (booksAt c j) inputs samples) (scaleOf c inputs)
+    (countOf inputs * stretchesOf (booksAt c j) samples)
+
+-- "For an amount without a tariff, all closed bills and the open one together are the exact energy of the whole history, rounded down once for each feeding input."
+abbrev pub PlainBills : Type 0
+PlainBills =
+    (c : Config) → Accepted c → (time : ℕ) (calls : List Call) (j : ℕ) → InUse c j → WithoutRule c j →
+    closedOf c time j calls + openOf c time j calls ≡ wholeUnitsOf c always (feeding c j) (whole c (eventsOf c time calls))
+
+-- each of the chosen registers is in use, on the sum of register k
+abbrev pub OnSumOf : Config → ℕ → (ℕ → Bool) → Type 0
+OnSumOf c k chosen =
+    (j : ℕ) → j < 16 → chosen j ≡ true → InUse c j × (registerAt (c .registers) j .sum ≡ registerAt (c .registers) k .sum)
+
+-- the rule of exactly one of the chosen registers was in force at this sample
+abbrev pub ExactlyOne : Config → (ℕ → Bool) → Sample → Type 0
+ExactlyOne c chosen e = total 16 (λ j. bit (chosen j && booksAt c j (e .second))) ≡ 1
+
+-- "Where amounts on one sum have different tariffs and exactly one of these was in force at every sample since the reset, their open amounts add up to that sum's open amount without a tariff."
+abbrev pub AmountsAddUp : Type 0
+AmountsAddUp =
+    (c : Config) → Accepted c → (time : ℕ) (calls : List Call) (k : ℕ) → InUse c k → WithoutRule c k →
+    (chosen : ℕ → Bool) → OnSumOf c k chosen → Each (ExactlyOne c chosen) (since c (eventsOf c time calls)) →
+    total 16 (λ j. partOf (chosen j) (openOf c time j calls)) ≡ openOf c time k calls

@@ -1,11 +1,11 @@
 -- Demand 2: what a history says of clock and meters, by induction over the calls.
 use mathlib.Core.Path.{_≡_, refl, sym, ap, _∙_}
-use mathlib.Core.Bool.{Bool, true, false, true≢false, not, _&&_, _||_}
+use mathlib.Core.Bool.{Bool, true, false, true≢false, not, _&&_, _||_, and-false}
 use mathlib.Core.List.{List, [], _∷_}
-use Prim.Native.Nat.{ℕ, zero, suc, _+_, _<_, _≤_}
+use Prim.Native.Nat.{ℕ, zero, suc, _+_, _<_, _≤_, min}
 use native.Mathlib.Nat.{le-refl}
 use native.Mathlib.Omega.{arith}
-use borrow.Author.Tests.{eqb-true, eqb-false, eq-eqb, ne-eqb, ltb-true, ltb-false, leb-true, leb-false}
+use borrow.Author.Tests.{eqb-true, eqb-false, eq-eqb, ne-eqb, ltb-true, ltb-false, leb-true, leb-false, lt-ltb, lt-leb}
 use lib.Dec.{eqb, ltb, leb}
 use lib.IntN.{ℤ}
 use lib.ListN.{length, getD, getD-replicate}
@@ -13,15 +13,20 @@ use lib.Seq.{getD-set-same, getD-set-other}
 use Rattle.laws.specs.If.{if_then_else_, if-cases}
 use Rattle.laws.specs.Tests.{by-test}
 use Rattle.laws.specs.Answers.{Answer, given, refused}
+use Rattle.laws.specs.Masks.{bit}
 use Rattle.laws.specs.SignedTotal.{totalℤ}
 use Rattle.laws.specs.Tables.{table, table-at, table-cong}
 use Rattle.calendar.specs.Moments.{momentOf}
 use Rattle.calendar.specs.declared.Moment.{Moment}
 use Rattle.tariff.specs.Rules.{forceOf}
+use Rattle.calendar.proofs.Moments.{always-dated, found-is-moment, one-moment}
 use Rattle.tariff.proofs.Laws.{bit-is-rule}
+use Rattle.image.proofs.Laws.{written-is-read, read-is-written}
+use Rattle.registers.proofs.Laws.{bytes-as-table, invalid-mark, awake-unmarked}
 use Rattle.image.specs.declared.Config.{Config}
+use Rattle.recorder.specs.Filter.{inputAt, nextRun, oneMore}
 use Rattle.recorder.specs.Periods.{multiple, tickOf}
-use Rattle.recorder.specs.Samples.{bookingOn, putIn, countedOf, clockEnd, sampleOf}
+use Rattle.recorder.specs.Samples.{activeAt, bookingOn, putIn, countedOf, clockEnd, sampleOf}
 use Rattle.recorder.specs.Clock.{setTo, setOf, resetOf}
 use Rattle.recorder.specs.Meters.{readingOf}
 use Rattle.recorder.specs.Calls.{freshState, sampleReply, setReply, readingReply, resetReply, replyTo}
@@ -31,67 +36,12 @@ use Rattle.recorder.specs.declared.Recorder.{Recorder}
 use Rattle.recorder.specs.declared.State.{State}
 use Rattle.recorder.proofs.Sound.{reached-is-sound, config-stays}
 use Rattle.registers.specs.Fleet.{meterAt, classAt, awakeValue, awakeSum, classesOf, fleetOf}
-use Rattle.demands.specs.Account.{Time, tick, timeOf}
-use Rattle.demands.specs.Demand2.{ClockOfHistory, lastReading, MetersOfHistory, heard, FleetOfHistory, TariffOfMoment}
-use Rattle.demands.proofs.Demand1.{no-date-9}
-
--- the clock of a state
-abbrev clockIn : State → Time
-clockIn s = record { second = s .clock; samples = s .samples }
-
--- the step steps the clock
-stepped : (c : Config) (s : State) → clockIn (tickOf c s) ≡ record { second = s .clock + 1; samples = 0 }
-unfolding tickOf
-stepped c s = by-test (multiple (c .period) (s .clock + 1)) (λ t. rw t) (λ f. rw f)
-
--- a counted sample moves the clock as the history has it
-counted : (c : Config) (s : State) → s .samples < 100 → clockIn (countedOf c s) ≡ tick (clockIn s)
-unfolding countedOf
-counted c s h =
-    by-test (leb 99 (s .samples))
-    (λ t. let last : s .samples ≡ 99 = omega (arith, leb-true 99 (s .samples) t) in rw (t, eq-eqb (s .samples) 99 last) (stepped c s))
-    (λ f. let other : s .samples ≡ 99 → ⊥ = λ e. omega (arith, leb-false 99 (s .samples) f) in rw (f, ne-eqb (s .samples) 99 other))
-
--- a sample moves it if it is taken
-sample-clock : (r : Recorder) (bits : ℕ) → r .state .samples < 100
-    → clockIn (sampleReply r bits .recorder .state) ≡ (if eqb (sampleReply r bits .number) 0 then tick (clockIn (r .state)) else clockIn (r .state))
-unfolding sampleOf
-sample-clock r bits h =
-    by-test (clockEnd (r .state)) (λ t. rw t)
-    (λ f.
-    by-test (bookingOn (r .config) (r .state) bits .full) (λ t. rw (f, t))
-    (λ g.
-    let b = bookingOn (r .config) (r .state) bits in
-    rw (f, g) (counted (r .config) (putIn (r .state) (r .state .clock) (r .state .samples) (b .lines) (b .bills)) h)))
-
--- a clock set sets it if it is taken
-set-clock : (r : Recorder) (time : ℕ)
-    → clockIn (setReply r time .recorder .state) ≡ (if eqb (setReply r time .number) 0 then record { second = time; samples = 0 } else clockIn (r .state))
-unfolding setOf setTo
-set-clock r time = go (momentOf time) refl
-  where
-    go : (m : Answer Moment) → momentOf time ≡ m
-        → clockIn (setReply r time .recorder .state) ≡ (if eqb (setReply r time .number) 0 then record { second = time; samples = 0 } else clockIn (r .state))
-    go (given m) e = rw e
-    go (refused n o) e = rw (no-date-9 time n o e)
-
--- a reading leaves it
-reading-clock : (r : Recorder) (meter : ℕ) (v : ℤ) (status seq : ℕ) → clockIn (readingReply r meter v status seq .recorder .state) ≡ clockIn (r .state)
-unfolding readingOf
-reading-clock r meter v status seq =
-    by-test (ltb 31 meter) (λ t. rw t)
-    (λ f.
-    by-test (eqb (getD (r .config .limits) meter 0) 0) (λ t. rw (f, t))
-    (λ g. by-test (ltb 7 status || ltb 31 seq) (λ t. rw (f, g, t)) (λ k. rw (f, g, k))))
-
-clock-is : (c : Config) (time : ℕ) (calls : List Call) → clockIn (afterAll (freshStart c time) calls .state) ≡ timeOf c time calls
-unfolding afterAll freshState resetOf
-clock-is c time [] = refl
-clock-is c time (sample bits ∷ earlier) =
-    sample-clock (afterAll (freshStart c time) earlier) bits (reached-is-sound c time earlier .samples) ∙ rw (clock-is c time earlier)
-clock-is c time (set-call seconds ∷ earlier) = set-clock (afterAll (freshStart c time) earlier) seconds ∙ rw (clock-is c time earlier)
-clock-is c time (reading meter v status seq ∷ earlier) = reading-clock (afterAll (freshStart c time) earlier) meter v status seq ∙ clock-is c time earlier
-clock-is c time (reset ∷ earlier) = clock-is c time earlier
+use Rattle.demands.specs.Account.{Time, Event, took, cleared, timeOf, eventsOf, runOf, endsImpulse}
+use Rattle.demands.specs.Demand3.{Accepted}
+use Rattle.demands.specs.Demand2.{ClockOfHistory, lastReading, MetersOfHistory, heard, FleetOfHistory, rejectedRuns, RejectedOfHistory, TariffOfMoment, Demand2}
+use Rattle.demands.proofs.Keeps.{rejectedAt, closedAt, Still, Booked, Closed, fresh}
+use Rattle.demands.proofs.Levels.{level-of-history}
+use Rattle.demands.proofs.Tracks.{clock-is, Runs, by-calls, held-range, next-held}
 
 pub clock-of-history : ClockOfHistory
 clock-of-history c time calls = (ap (λ (t : Time). t .second) (clock-is c time calls), ap (λ (t : Time). t .samples) (clock-is c time calls))
@@ -184,6 +134,74 @@ fleet-of-history c time calls =
     same-fleet (afterAll (freshStart c time) calls) (heard c time calls) (ap (λ (k : Config). k .limits) (config-stays c time calls)) (clock-of-history c time calls .0)
     (λ i l. meters-of-history c time calls i l ∙ sym (table-at 32 (lastReading c time calls) i _ l))
 
+both-not : (e f : Bool) → (e && not f) ≡ (e && not (e && f))
+both-not true f = refl
+both-not false f = refl
+
+-- a run that is held at 256, above the longest, is rejected exactly when the full run is
+held-rejects : (short long run : ℕ) (off : Bool) → long < 256
+    → ((off && ltb 0 (min 256 run)) && not (leb short (min 256 run) && leb (min 256 run) long))
+    ≡ ((off && ltb 0 run) && not ((off && ltb 0 run) && (leb short run && leb run long)))
+held-rejects short long run off h =
+    by-test (leb run 256)
+    (λ e. let same : min 256 run ≡ run = omega (arith, leb-true run 256 e) in rw same (both-not (off && ltb 0 run) (leb short run && leb run long)))
+    (λ e.
+    let more = leb-false run 256 e in
+    let a : ltb 0 (min 256 run) ≡ true = lt-ltb 0 (min 256 run) (omega arith) in
+    let b : ltb 0 run ≡ true = lt-ltb 0 run (omega arith) in
+    let d : leb (min 256 run) long ≡ false = lt-leb (min 256 run) long (omega arith) in
+    let f : leb run long ≡ false = lt-leb run long (omega arith) in
+    rw (a, b, d, f) (simp and-false))
+
+-- one more rejected run, held
+next-rejected : (n : ℕ) (on : Bool) → oneMore (min 65_535 n) on ≡ min 65_535 (n + bit on)
+next-rejected n true =
+    by-test (ltb (min 65_535 n) 65_535) (λ e. rw e (omega (arith, ltb-true (min 65_535 n) 65_535 e))) (λ e. rw e (omega (arith, ltb-false (min 65_535 n) 65_535 e)))
+next-rejected n false = omega arith
+
+-- the lines' runs and rejected counts are the history's, held
+abbrev Says : Config → State → List Event → ℕ → Type 0
+Says c s l n = Runs c s l × ((i : ℕ) → i < 16 → rejectedAt s i ≡ min 65_535 (rejectedRuns c i l))
+
+pub rejected-of-history : RejectedOfHistory
+rejected-of-history c good time calls = by-calls c time 0 (Says c) start book stay clear calls .1
+  where
+    start : Says c (freshState time) [] 0
+    start = (λ i l. fresh time .runs i l ∙ omega arith, λ i l. fresh time .rejects i l ∙ omega arith)
+
+    book : (s s′ : State) (l : List Event) (n bits : ℕ) → Booked c bits s s′ → Says c s l n → Says c s′ (took bits (s .clock) ∷ l) n
+    book s s′ l n bits new old = (
+      λ i b. new .runs i b ∙ (ap (λ (r : ℕ). nextRun r (activeAt (c .inputs) bits i)) (old .0 i b) ∙ next-held (runOf c i l) (activeAt (c .inputs) bits i)),
+      λ i b. new .rejects i b
+          ∙ rw (old .1 i b, old .0 i b, held-rejects (inputAt (c .inputs) i .shortest) (inputAt (c .inputs) i .longest) (runOf c i l) (not (activeAt (c .inputs) bits i)) (good .bytes i b))
+          (next-rejected (rejectedRuns c i l) ((not (activeAt (c .inputs) bits i) && ltb 0 (runOf c i l)) && not (endsImpulse c bits l i))),
+    )
+
+    stay : (s s′ : State) (l : List Event) (n : ℕ) → Still s s′ → Says c s l n → Says c s′ l n
+    stay s s′ l n same old = (λ i b. same .lines .runs i b ∙ old .0 i b, λ i b. same .lines .rejects i b ∙ old .1 i b)
+
+    clear : (s s′ : State) (l : List Event) (n : ℕ) → Closed c s s′ → Says c s l n → Says c s′ (cleared ∷ l) (n + closedAt s′ 0)
+    clear s s′ l n new old = (λ i b. new .lines .runs i b ∙ old .0 i b, λ i b. new .lines .rejects i b ∙ old .1 i b)
+
 pub tariff-of-moment : TariffOfMoment
 unfolding forceOf
 tariff-of-moment p t m e i = rw e (bit-is-rule p m i)
+
+pub demand-2 : Demand2
+demand-2 =
+    record {
+      written-is-read = written-is-read;
+      read-is-written = read-is-written;
+      invalid-mark = invalid-mark;
+      awake-unmarked = awake-unmarked;
+      clock = clock-of-history;
+      meters = meters-of-history;
+      fleet = fleet-of-history;
+      rejected = rejected-of-history;
+      level-0 = level-of-history;
+      tariffs = tariff-of-moment;
+      dated = always-dated;
+      calendar = found-is-moment;
+      one-moment = one-moment;
+      bytes = bytes-as-table;
+    }

@@ -32,7 +32,7 @@ use Rattle.demands.proofs.Tracks.{reached, by-calls, Fitted, sum-added,
 -- What the definitions say
 
 -- a good input of some kind has a denominator
-good-denominator : (x : Input) → inputGood x ≡ true → eqb (x .kind) 0 ≡ false → 0 < x .denominator
+pub good-denominator : (x : Input) → inputGood x ≡ true → eqb (x .kind) 0 ≡ false → 0 < x .denominator
 good-denominator x e kind =
     let fitted = (eqb (x .kind) 1 || eqb (x .kind) 2) && runsGood x in
     let top = leb 1 (x .numerator) && leb (x .numerator) 10_000 in

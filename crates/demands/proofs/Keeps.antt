@@ -1,6 +1,6 @@
 -- What each call does to runs, remainders, open amounts and clock of the real recorder, from its definitions.
 use mathlib.Core.Path.{_≡_, refl, sym, ap, _∙_}
-use mathlib.Core.Bool.{Bool, true, false, _&&_, _||_}
+use mathlib.Core.Bool.{Bool, true, false, _&&_, _||_, not}
 use mathlib.Core.List.{List}
 use Prim.Native.Nat.{ℕ, _+_, _/_, _<_}
 use native.Mathlib.Nat.{add-zero}
@@ -22,7 +22,7 @@ use Rattle.tariff.specs.Rules.{forceMapAt}
 use Rattle.image.specs.declared.Config.{Config}
 use Rattle.image.specs.declared.Input.{Input}
 use Rattle.image.specs.declared.Register.{Register}
-use Rattle.recorder.specs.Filter.{inputAt, lineAt, nextRun, accepted, filtered, filteredAt, acceptedAt, steppedOf}
+use Rattle.recorder.specs.Filter.{inputAt, lineAt, nextRun, accepted, filtered, filteredAt, acceptedAt, steppedOf, oneMore, ends, fitting}
 use Rattle.recorder.specs.Units.{unitsOf, remainderOf, credited, creditIf, unitsIf, creditedAt, unitsAt, creditsOf}
 use Rattle.recorder.specs.Bills.{registerAt, billAt, unitAt, partOf, namedPart, sumOf, sumAt, sumsOf, registerUnits, feeds, dueOf, fills, billed, dueAt, fillsAt, billedAt, bookedOf}
 use Rattle.recorder.specs.Periods.{multiple, cleared, clearedAt, clearedLines, tickOf}
@@ -36,9 +36,12 @@ use Rattle.recorder.specs.declared.State.{State}
 use Rattle.demands.specs.Account.{Time, tick, booksAt, feeding}
 use Rattle.demands.specs.Demand3.{InUse}
 
--- run and remainder of input i, open and last closed amount of register j, the clock
+-- run, rejected count and remainder of input i, open and last closed amount of register j, the clock
 abbrev pub runAt : State → ℕ → ℕ
 runAt s i = lineAt (s .lines) i .run
+
+abbrev pub rejectedAt : State → ℕ → ℕ
+rejectedAt s i = lineAt (s .lines) i .rejected
 
 abbrev pub remAt : State → ℕ → ℕ
 remAt s i = lineAt (s .lines) i .remainder
@@ -56,13 +59,20 @@ timeAt s = record { second = s .clock; samples = s .samples }
 abbrev pub bringsAt : Config → ℕ → State → ℕ → Bool
 bringsAt c bits s i = accepted (inputAt (c .inputs) i) (lineAt (s .lines) i) (activeAt (c .inputs) bits i)
 
+-- or rejects one
+abbrev pub rejectsAt : Config → ℕ → State → ℕ → Bool
+rejectsAt c bits s i =
+    let line = lineAt (s .lines) i in
+    ends line (activeAt (c .inputs) bits i) && not (fitting (inputAt (c .inputs) i) line)
+
 -- the units that input i brings with it
 abbrev pub broughtAt : Config → ℕ → State → ℕ → ℕ
 broughtAt c bits s i = if bringsAt c bits s i then unitsOf (inputAt (c .inputs) i) (remAt s i) else 0
 
--- the same runs and remainders
+-- the same runs, rejected counts and remainders
 pub record SameLines (s s′ : State) : Type 0 where
   pub runs : (i : ℕ) → i < 16 → runAt s′ i ≡ runAt s i
+  pub rejects : (i : ℕ) → i < 16 → rejectedAt s′ i ≡ rejectedAt s i
   pub remainders : (i : ℕ) → i < 16 → remAt s′ i ≡ remAt s i
 
 -- and the same open amounts: what a clock set, a reading and a refused call leave
@@ -74,6 +84,7 @@ pub record Still (s s′ : State) : Type 0 where
 pub record Booked (c : Config) (bits : ℕ) (s s′ : State) : Type 0 where
   pub time : s .samples < 100 → timeAt s′ ≡ tick (timeAt s)
   pub runs : (i : ℕ) → i < 16 → runAt s′ i ≡ nextRun (runAt s i) (activeAt (c .inputs) bits i)
+  pub rejects : (i : ℕ) → i < 16 → rejectedAt s′ i ≡ oneMore (rejectedAt s i) (rejectsAt c bits s i)
   pub remainders : (i : ℕ) → i < 16 → remAt s′ i ≡ (if bringsAt c bits s i then remainderOf (inputAt (c .inputs) i) (remAt s i) else remAt s i)
   pub amounts : (j : ℕ) → InUse c j → amountAt s′ j ≡ amountAt s j + (if booksAt c j (s .clock) then sumOf (feeding c j) (broughtAt c bits s) else 0)
 
@@ -91,6 +102,11 @@ credit-run : (input : Input) (line : Line) (on : Bool) → creditIf input line o
 unfolding creditIf credited
 credit-run input line true = refl
 credit-run input line false = refl
+
+credit-rejected : (input : Input) (line : Line) (on : Bool) → creditIf input line on .rejected ≡ line .rejected
+unfolding creditIf credited
+credit-rejected input line true = refl
+credit-rejected input line false = refl
 
 credit-rem : (input : Input) (line : Line) (on : Bool) → creditIf input line on .remainder ≡ (if on then remainderOf input (line .remainder) else line .remainder)
 unfolding creditIf credited
@@ -124,7 +140,7 @@ module _ (c : Config) (s : State) (bits : ℕ) where
       bit-at 16 (acceptedAt (c .inputs) (s .lines) (activeLines (c .inputs) bits)) i ∙ rw (lt-ltb i 16 l, active-bit (c .inputs) bits i l)
 
   -- line i after the sample
-  line-after : (i : ℕ) → i < 16
+  pub line-after : (i : ℕ) → i < 16
       → lineAt (bookingOn c s bits .lines) i ≡ creditIf (inputAt (c .inputs) i) (filtered (inputAt (c .inputs) i) (lineAt (s .lines) i) (on i)) (bringsAt c bits s i)
   unfolding bookingOf creditsOf creditedAt
   line-after i l = table-at 16 (creditedAt (c .inputs) stepped impulses) i _ l ∙ rw (stepped-line i l, impulse-bit i l)
@@ -161,7 +177,7 @@ pub record Counted (s s′ : State) : Type 0 where
   pub bills : s′ .bills ≡ s .bills
 
 -- lines at the start of a period
-cleared-line : (lines : List Line) (i : ℕ) → i < 16 → lineAt (clearedLines lines) i ≡ cleared (lineAt lines i)
+pub cleared-line : (lines : List Line) (i : ℕ) → i < 16 → lineAt (clearedLines lines) i ≡ cleared (lineAt lines i)
 unfolding clearedLines clearedAt
 cleared-line lines i l = table-at 16 (clearedAt lines) i _ l
 
@@ -170,11 +186,12 @@ unfolding cleared
 cleared-same s s′ e =
     record {
       runs = λ i l. ap (λ (lines : List Line). lineAt lines i .run) e ∙ ap (λ (x : Line). x .run) (cleared-line (s .lines) i l);
+      rejects = λ i l. ap (λ (lines : List Line). lineAt lines i .rejected) e ∙ ap (λ (x : Line). x .rejected) (cleared-line (s .lines) i l);
       remainders = λ i l. ap (λ (lines : List Line). lineAt lines i .remainder) e ∙ ap (λ (x : Line). x .remainder) (cleared-line (s .lines) i l);
     }
 
 same : (s s′ : State) → s′ .lines ≡ s .lines → SameLines s s′
-same s s′ e = record { runs = λ i l. rw e; remainders = λ i l. rw e }
+same s s′ e = record { runs = λ i l. rw e; rejects = λ i l. rw e; remainders = λ i l. rw e }
 
 counted : (c : Config) (s : State) → Counted s (countedOf c s)
 unfolding countedOf tickOf
@@ -202,6 +219,7 @@ booked c s bits e =
     record {
       time = n .time;
       runs = λ i l. n .lines .runs i l ∙ (ap (λ (x : Line). x .run) (line-after c s bits i l) ∙ credit-run _ _ (bringsAt c bits s i));
+      rejects = λ i l. n .lines .rejects i l ∙ (ap (λ (x : Line). x .rejected) (line-after c s bits i l) ∙ credit-rejected _ _ (bringsAt c bits s i));
       remainders = λ i l. n .lines .remainders i l ∙ (ap (λ (x : Line). x .remainder) (line-after c s bits i l) ∙ credit-rem _ _ (bringsAt c bits s i));
       amounts = λ j u. ap (λ (bills : List Bill). billAt bills j .amount) (n .bills) ∙ bill-after c s bits j u e;
     }
@@ -272,6 +290,7 @@ reset-step c s =
 pub record Fresh (time : ℕ) (s : State) : Type 0 where
   pub begins : timeAt s ≡ record { second = time; samples = 0 }
   pub runs : (i : ℕ) → i < 16 → runAt s i ≡ 0
+  pub rejects : (i : ℕ) → i < 16 → rejectedAt s i ≡ 0
   pub remainders : (i : ℕ) → i < 16 → remAt s i ≡ 0
   pub amounts : (j : ℕ) → j < 16 → amountAt s j ≡ 0
 
@@ -281,6 +300,7 @@ fresh time =
     record {
       begins = refl;
       runs = λ i l. ap (λ (x : Line). x .run) (getD-replicate 16 i _ _ l);
+      rejects = λ i l. ap (λ (x : Line). x .rejected) (getD-replicate 16 i _ _ l);
       remainders = λ i l. ap (λ (x : Line). x .remainder) (getD-replicate 16 i _ _ l);
       amounts = λ j l. ap (λ (x : Bill). x .amount) (getD-replicate 16 j _ _ l);
     }

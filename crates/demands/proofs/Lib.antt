@@ -5,6 +5,7 @@ pub mod Keeps
 pub mod Tracks
 pub mod Starts
 pub mod Demand1
+pub mod Levels
 pub mod Demand2
 pub mod Demand3
 pub mod Table

@@ -97,7 +97,7 @@ module _ (c : Config) (time j : ℕ) (Q : State → List Event → ℕ → Type 
   by-calls (reset ∷ calls) = clear _ _ _ _ (reset-at c time calls) (by-calls calls)
 
 -- a run that is held at 256, above the longest, ends an impulse exactly when the full run does
-held-range : (short long run : ℕ) (off : Bool) → long < 256
+pub held-range : (short long run : ℕ) (off : Bool) → long < 256
     → ((off && ltb 0 (min 256 run)) && (leb short (min 256 run) && leb (min 256 run) long)) ≡ ((off && ltb 0 run) && (leb short run && leb run long))
 held-range short long run off h =
     by-test (leb run 256)
@@ -109,7 +109,7 @@ held-range short long run off h =
     rw (a, b) (simp and-false))
 
 -- and the run stays held after one more sample
-next-held : (run : ℕ) (on : Bool) → nextRun (min 256 run) on ≡ min 256 (if on then suc run else 0)
+pub next-held : (run : ℕ) (on : Bool) → nextRun (min 256 run) on ≡ min 256 (if on then suc run else 0)
 next-held run true =
     by-test (ltb (min 256 run) 256) (λ e. rw e (omega (arith, ltb-true (min 256 run) 256 e))) (λ e. rw e (omega (arith, ltb-false (min 256 run) 256 e)))
 next-held run false = omega arith
@@ -121,12 +121,12 @@ pub record Fitted (c : Config) (i : ℕ) : Type 0 where
   pub short : inputAt (c .inputs) i .longest < 256
 
 -- units and remainder, where there is a denominator
-unit-is : (x : Input) (r : ℕ) (p : Bool) → 0 < x .denominator → (if p then unitsOf x r else 0) ≡ paidUnits (x .numerator) (x .denominator) p r
+pub unit-is : (x : Input) (r : ℕ) (p : Bool) → 0 < x .denominator → (if p then unitsOf x r else 0) ≡ paidUnits (x .numerator) (x .denominator) p r
 unfolding unitsOf
 unit-is x r true pos = let some : x .denominator ≡ 0 → ⊥ = omega arith in rw (ne-eqb (x .denominator) 0 some)
 unit-is x r false pos = refl
 
-rem-is : (x : Input) (r : ℕ) (p : Bool) → 0 < x .denominator → (if p then remainderOf x r else r) ≡ nextRem (x .numerator) (x .denominator) p r
+pub rem-is : (x : Input) (r : ℕ) (p : Bool) → 0 < x .denominator → (if p then remainderOf x r else r) ≡ nextRem (x .numerator) (x .denominator) p r
 unfolding remainderOf
 rem-is x r true pos = let some : x .denominator ≡ 0 → ⊥ = omega arith in rw (ne-eqb (x .denominator) 0 some)
 rem-is x r false pos = refl
@@ -144,11 +144,11 @@ paysOf c j start es i = units (inputAt (c .inputs) i .numerator) (inputAt (c .in
 abbrev pub leftOf : Config → (ℕ → ℕ) → List Sample → ℕ → ℕ
 leftOf c start es i = rem (inputAt (c .inputs) i .numerator) (inputAt (c .inputs) i .denominator) i (start i) es
 
-module _ (c : Config) (j : ℕ) where
-  -- the lines' runs are the history's runs, held
-  abbrev Runs : State → List Event → Type 0
-  Runs s l = (i : ℕ) → i < 16 → runAt s i ≡ min 256 (runOf c i l)
+-- the lines' runs are the history's runs, held
+abbrev pub Runs : Config → State → List Event → Type 0
+Runs c s l = (i : ℕ) → i < 16 → runAt s i ≡ min 256 (runOf c i l)
 
+module _ (c : Config) (j : ℕ) where
   -- the inputs that feed register j are fitted
   abbrev Feeds : Type 0
   Feeds = (i : ℕ) → i < 16 → bitAt (feeding c j) i ≡ true → Fitted c i
@@ -159,12 +159,12 @@ module _ (c : Config) (j : ℕ) where
     pub paid : x ≡ added (bitAt (feeding c j)) (paysOf c j start es) 16
 
   -- the recorder accepts the history's impulses
-  same-impulse : (s : State) (l : List Event) (bits i : ℕ) → Fitted c i → runAt s i ≡ min 256 (runOf c i l) → bringsAt c bits s i ≡ endsImpulse c bits l i
+  pub same-impulse : (s : State) (l : List Event) (bits i : ℕ) → Fitted c i → runAt s i ≡ min 256 (runOf c i l) → bringsAt c bits s i ≡ endsImpulse c bits l i
   unfolding accepted
   same-impulse s l bits i f e =
       rw (e, held-range (inputAt (c .inputs) i .shortest) (inputAt (c .inputs) i .longest) (runOf c i l) (not (activeAt (c .inputs) bits i)) (f .short))
 
-  module _ (start : ℕ → ℕ) (es : List Sample) (s s′ : State) (l : List Event) (bits x x′ : ℕ) (runs : Runs s l) (old : Tracks start es s x) where
+  module _ (start : ℕ → ℕ) (es : List Sample) (s s′ : State) (l : List Event) (bits x x′ : ℕ) (runs : Runs c s l) (old : Tracks start es s x) where
     -- the units that a sample brings are those that the history says
     brought-is : (i : ℕ) → Fitted c i
         → broughtAt c bits s i
@@ -205,7 +205,7 @@ module _ (c : Config) (j : ℕ) where
 
   -- what holds after any calls, with the closed bills n: the whole history and the samples since the last reset are both tracked
   pub record Tracked (s : State) (l : List Event) (n : ℕ) : Type 0 where
-    pub runs : Runs s l
+    pub runs : Runs c s l
     pub over-whole : Tracks (λ i. 0) (whole c l) s (n + amountAt s j)
     pub start : ℕ → ℕ
     pub start-lt : (i : ℕ) → Fitted c i → start i < inputAt (c .inputs) i .denominator

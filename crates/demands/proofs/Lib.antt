@@ -5,3 +5,5 @@ pub mod Keeps
 pub mod Tracks
 pub mod Demand3
 pub mod Starts
+pub mod Example
+pub mod Checks

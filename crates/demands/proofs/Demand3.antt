@@ -49,7 +49,7 @@ good-names inputs x i e l on =
     not-true (eqb (inputAt inputs i .kind) 0) (and-right (ltb i 16) (not (eqb (inputAt inputs i .kind) 0)) fitted)
 
 -- so the inputs that feed a register in use are fitted
-feeds-fitted : (c : Config) → Accepted c → (j : ℕ) → InUse c j → (i : ℕ) → i < 16 → bitAt (feeding c j) i ≡ true → Fitted c i
+pub feeds-fitted : (c : Config) → Accepted c → (j : ℕ) → InUse c j → (i : ℕ) → i < 16 → bitAt (feeding c j) i ≡ true → Fitted c i
 unfolding sections feeding
 feeds-fitted c a j used i l on =
     let kind = good-names (c .inputs) _ i (a .good .1 .1 .0 (registerAt (c .registers) j .sum) (used .1)) l on in

@@ -1,11 +1,11 @@
 -- The owner's third demand: "Take any sequence of samples, clock sets, readings and billing resets from a fresh start." Each type below is a theorem, proved in proofs/Demand3.antt.
 use mathlib.Core.Path.{_≡_}
-use mathlib.Core.Bool.{Bool, true, _&&_}
-use mathlib.Core.List.{List}
-use Prim.Native.Nat.{ℕ, _+_, _*_, _<_}
+use mathlib.Core.Bool.{Bool, true, false, not, _&&_}
+use mathlib.Core.List.{List, [], _∷_, _++_}
+use Prim.Native.Nat.{ℕ, _+_, _*_, _/_, _<_}
 use Rattle.laws.specs.Each.{Each}
 use Rattle.laws.specs.Total.{total}
-use Rattle.laws.specs.Masks.{bit}
+use Rattle.laws.specs.Masks.{bit, bitAt}
 use Rattle.laws.specs.Bytes.{Bytes}
 use Rattle.laws.specs.Answers.{given}
 use Rattle.image.specs.Answers.{imageConfig}
@@ -15,7 +15,7 @@ use Rattle.recorder.specs.Bills.{registerAt, partOf}
 use Rattle.recorder.specs.Calls.{startReply}
 use Rattle.recorder.specs.History.{Call, freshStart}
 use Rattle.recorder.specs.Laws.{Good}
-use Rattle.demands.specs.Account.{Sample, eventsOf, closedOf, openOf, whole, since, booksAt, always, stretchesOf, feeding, countOf, scaleOf, energyOf, wholeUnitsOf}
+use Rattle.demands.specs.Account.{Event, Sample, eventsOf, closedOf, openOf, whole, since, booksAt, always, stretchesOf, feeding, countOf, scaleOf, energyOf, wholeUnitsOf}
 
 -- a configuration that the image check accepts: each entry keeps its rule, and the longest runs are bytes, as the image has them
 pub record Accepted (c : Config) : Type 0 where
@@ -73,3 +73,28 @@ AmountsAddUp =
     (c : Config) → Accepted c → (time : ℕ) (calls : List Call) (k : ℕ) → InUse c k → WithoutRule c k →
     (chosen : ℕ → Bool) → OnSumOf c k chosen → Each (ExactlyOne c chosen) (since c (eventsOf c time calls)) →
     total 16 (λ j. partOf (chosen j) (openOf c time j calls)) ≡ openOf c time k calls
+
+-- For a reader who doubts the account's definitions
+
+-- stretches counted at their newest sample; `newer` says that the sample after the listed ones is in the stretch too
+abbrev pub endsOf : (ℕ → Bool) → Bool → List Sample → ℕ
+endsOf on newer [] = 0
+endsOf on newer (e ∷ earlier) = bit (on (e .second) && not newer) + endsOf on (on (e .second)) earlier
+
+-- whether the oldest of the samples is in a stretch; `newer` where there are none
+abbrev pub oldestOn : (ℕ → Bool) → Bool → List Sample → Bool
+oldestOn on newer [] = newer
+oldestOn on newer (e ∷ earlier) = oldestOn on (on (e .second)) earlier
+
+-- "It counts for the open amount if one of its samples came after the last reset": of all stretches of the history those counted over `since` count, and all others ended before the reset
+abbrev pub StretchesThatCount : Type 0
+StretchesThatCount =
+    (c : Config) (on : ℕ → Bool) (events : List Event)
+    → (older : List Sample) × (whole c events ≡ since c events ++ older)
+    × (stretchesOf on (whole c events) ≡ stretchesOf on (since c events) + endsOf on (oldestOn on false (since c events)) older)
+
+-- the scale is a multiple of each feeding input's denominator: no energy is lost by the division in `energyOf`
+abbrev pub ScaleIsExact : Type 0
+ScaleIsExact =
+    (c : Config) → Accepted c → (j : ℕ) → InUse c j → (i : ℕ) → i < 16 → bitAt (feeding c j) i ≡ true
+    → scaleOf c (feeding c j) / inputAt (c .inputs) i .denominator * inputAt (c .inputs) i .denominator ≡ scaleOf c (feeding c j)

@@ -1,0 +1,73 @@
+-- That the account's definitions say what document 01 says: stretches may be counted at either end, and the scale is exact.
+use mathlib.Core.Path.{_≡_, refl, sym, ap, _∙_}
+use mathlib.Core.Bool.{Bool, true, false, not, _&&_}
+use mathlib.Core.List.{List, [], _∷_, _++_}
+use mathlib.Core.Logic.{⊎-elim}
+use Prim.Native.Nat.{ℕ, zero, suc, _+_, _*_, _/_, _<_}
+use native.Mathlib.Nat.{mul-assoc, mul-comm, mul-one, mul-div-cancel-left, eq-or-lt-of-le, le-of-suc-le-suc}
+use native.Mathlib.Omega.{arith}
+use Rattle.laws.specs.If.{if_then_else_}
+use Rattle.laws.specs.Masks.{bit, bitAt}
+use Rattle.image.specs.declared.Config.{Config}
+use Rattle.recorder.specs.Filter.{inputAt}
+use Rattle.demands.specs.Account.{Event, took, cleared, Sample, whole, since, running, stretchesOf, feeding, productOf}
+use Rattle.demands.specs.Demand3.{endsOf, oldestOn, StretchesThatCount, ScaleIsExact}
+use Rattle.demands.proofs.Demand3.{feeds-fitted}
+
+ends-step : (t w r : Bool) (n m : ℕ) → n + bit (t && r) ≡ m → bit (t && not w) + n + bit (w && t) ≡ m + bit (t && not r)
+ends-step true true true n m h = omega arith
+ends-step true true false n m h = omega arith
+ends-step true false true n m h = omega arith
+ends-step true false false n m h = omega arith
+ends-step false true r n m h = omega arith
+ends-step false false r n m h = omega arith
+
+ends-running : (on : ℕ → Bool) (w : Bool) (es : List Sample) → endsOf on w es + bit (w && running on es) ≡ stretchesOf on es
+ends-running on true [] = refl
+ends-running on false [] = refl
+ends-running on w (e ∷ es) = ends-step (on (e .second)) w (running on es) _ _ (ends-running on (on (e .second)) es)
+
+-- either end gives the same count
+either-end : (on : ℕ → Bool) (es : List Sample) → stretchesOf on es ≡ endsOf on false es
+either-end on es = omega (arith, ends-running on false es)
+
+ends-append : (on : ℕ → Bool) (w : Bool) (new old : List Sample) → endsOf on w (new ++ old) ≡ endsOf on w new + endsOf on (oldestOn on w new) old
+ends-append on w [] old = omega arith
+ends-append on w (e ∷ new) old = omega (arith, ends-append on (on (e .second)) new old)
+
+split : (on : ℕ → Bool) (new old : List Sample) → stretchesOf on (new ++ old) ≡ stretchesOf on new + endsOf on (oldestOn on false new) old
+split on new old = omega (arith, either-end on (new ++ old), either-end on new, ends-append on false new old)
+
+-- the samples since the last reset are the newer ones of all
+since-front : (c : Config) (l : List Event) → (older : List Sample) × (whole c l ≡ since c l ++ older)
+since-front c [] = ([], refl)
+since-front c (took bits t ∷ l) = let (older, e) = since-front c l in (older, rw e)
+since-front c (cleared ∷ l) = (whole c l, refl)
+
+pub stretches-that-count : StretchesThatCount
+stretches-that-count c on events =
+    let (older, e) = since-front c events in (older, e, ap (stretchesOf on) e ∙ split on (since c events) older)
+
+-- a product of denominators is a multiple of each, here with a factor m
+exact-times : (named : ℕ → Bool) (d : ℕ → ℕ) (n m i : ℕ) → i < n → named i ≡ true → 0 < d i → productOf named d n * m / d i * d i ≡ productOf named d n * m
+unfolding productOf
+exact-times named d zero m i l e pos = absurd (omega arith)
+exact-times named d (suc n) m i l e pos =
+    ⊎-elim
+    (λ q. here q)
+    (λ k.
+    let f = if named n then d n else 1 in
+    ap (λ (x : ℕ). x / d i * d i) (mul-assoc (productOf named d n) f m) ∙ (exact-times named d n (f * m) i k e pos ∙ sym (mul-assoc (productOf named d n) f m)))
+    (eq-or-lt-of-le (le-of-suc-le-suc l))
+  where
+    own : (p m d : ℕ) → 0 < d → p * d * m / d * d ≡ p * d * m
+    own p m d pos =
+        let e : p * d * m ≡ d * (p * m) = ap (λ (x : ℕ). x * m) (mul-comm p d) ∙ mul-assoc d p m in
+        rw (e, mul-div-cancel-left (p * m) pos) (mul-comm (p * m) d)
+
+    here : i ≡ n → productOf named d n * (if named n then d n else 1) * m / d i * d i ≡ productOf named d n * (if named n then d n else 1) * m
+    here q = rw (← q, e) (own (productOf named d i) m (d i) pos)
+
+pub scale-is-exact : ScaleIsExact
+scale-is-exact c a j used i l e =
+    simp mul-one at (exact-times (bitAt (feeding c j)) (λ k. inputAt (c .inputs) k .denominator) 16 1 i l e (feeds-fitted c a j used i l e .divides))

@@ -1,0 +1,75 @@
+-- The example's numbers, computed.
+use mathlib.Core.Path.{_≡_, refl}
+use mathlib.Core.List.{List, [], _∷_}
+use Prim.Native.Nat.{ℕ, zero, suc, _<_}
+use native.Mathlib.Omega.{arith}
+use lib.IntN.{pos}
+use lib.ListN.{getD, replicate}
+use Rattle.laws.specs.Each.{Each}
+use Rattle.laws.specs.First.{first}
+use Rattle.laws.specs.Any.{any}
+use Rattle.laws.specs.Total.{total}
+use Rattle.laws.specs.Spans.{span}
+use Rattle.laws.specs.Masks.{maskOf, bitAt}
+use Rattle.laws.specs.Tables.{table}
+use Rattle.laws.specs.Answers.{given}
+use Rattle.calendar.specs.Dates.{monthLength, yearLength}
+use Rattle.calendar.specs.Moments.{yearDay, momentOf}
+use Rattle.tariff.specs.Daily.{windowActive, dailyActive}
+use Rattle.tariff.specs.Weekly.{fitsAt, firstHoliday, columnOn, referenceAt, weeklyActive}
+use Rattle.tariff.specs.Seasons.{inSeason, seasonActive}
+use Rattle.tariff.specs.Rules.{applies, inForce, forceMap, forceOf}
+use Rattle.image.specs.Rules.{noInput, fittedIn, sumGood}
+use Rattle.image.specs.Check.{sections, firstBad, checked}
+use Rattle.image.specs.declared.Config.{Config}
+use Rattle.image.proofs.Found.{good-exactly}
+use Rattle.recorder.specs.Filter.{inputAt, accepted, filtered, filteredAt, acceptedAt, steppedOf}
+use Rattle.recorder.specs.Units.{unitsOf, remainderOf, credited, creditIf, unitsIf, creditedAt, unitsAt, creditsOf}
+use Rattle.recorder.specs.Bills.{namedPart, sumOf, sumAt, sumsOf, registerUnits, dueOf, fills, billed, dueAt, fillsAt, billedAt, bookedOf}
+use Rattle.recorder.specs.Levels.{level0At, level0, termAt, level2, inputValue, sumValue, functionValue, slotValue, slotValueAt, slotValues}
+use Rattle.recorder.specs.Periods.{multiple, cleared, clearedAt, clearedLines, closedAs, tickOf}
+use Rattle.recorder.specs.Samples.{bookingOf, activeAt, activeLines, countedOf, sampleOf}
+use Rattle.recorder.specs.Clock.{setTo, setOf, closedBill, closedBillAt, resetOf}
+use Rattle.recorder.specs.Meters.{readingOf}
+use Rattle.recorder.specs.Calls.{freshState}
+use Rattle.recorder.specs.History.{afterAll}
+use Rattle.recorder.specs.Laws.{Good}
+use Rattle.demands.specs.Account.{eventsOf, closedOf, openOf, whole, since, booksAt, always, stretchesOf, feeding, countOf, productOf, scaleOf, energyOf, wholeUnitsOf}
+use Rattle.demands.specs.Example.{twoMakers, start, calls, events, Numbers, byDay, dayAndNightThrice, Needed}
+
+-- the check finds nothing
+is-good : Good twoMakers
+unfolding checked firstBad sections first fittedIn sumGood any bitAt
+is-good = good-exactly twoMakers .0 refl
+
+-- a longest run of the example is a byte
+runs-bytes : (i : ℕ) → i < 16 → inputAt (twoMakers .inputs) i .longest < 256
+runs-bytes zero l = omega arith
+runs-bytes (suc zero) l = omega arith
+runs-bytes (suc (suc zero)) l = omega arith
+runs-bytes (suc (suc (suc i))) l = unused 13 i
+  where
+    unused : (n i : ℕ) → inputAt (replicate n noInput) i .longest < 256
+    unused zero i = omega arith
+    unused (suc n) zero = omega arith
+    unused (suc n) (suc i) = unused n i
+
+pub numbers : Numbers
+unfolding first any total span maskOf bitAt table monthLength yearLength yearDay momentOf windowActive dailyActive fitsAt firstHoliday columnOn referenceAt weeklyActive inSeason seasonActive applies inForce forceMap forceOf accepted filtered filteredAt acceptedAt steppedOf unitsOf remainderOf credited creditIf unitsIf creditedAt unitsAt creditsOf namedPart sumOf sumAt sumsOf registerUnits dueOf fills billed dueAt fillsAt billedAt bookedOf level0At level0 termAt level2 inputValue sumValue functionValue slotValue slotValueAt slotValues multiple cleared clearedAt clearedLines closedAs tickOf bookingOf activeAt activeLines countedOf sampleOf setTo setOf closedBill closedBillAt resetOf readingOf freshState afterAll booksAt feeding productOf
+numbers =
+    record {
+      accepted = record { good = is-good; bytes = runs-bytes };
+      happened = refl;
+      opened = refl;
+      closed = refl;
+      inputs = refl;
+      scales = refl;
+      energy = refl;
+      stretches = refl;
+      total = refl;
+      once = (refl, (refl, (refl, (refl, (refl, (refl, (refl, (refl, (refl, (refl, (refl, (refl, (refl, (refl, (refl, (refl, (refl, (refl, (refl, tt)))))))))))))))))));
+    }
+
+pub needed : Needed
+unfolding first any total span maskOf bitAt table monthLength yearLength yearDay momentOf windowActive dailyActive fitsAt firstHoliday columnOn referenceAt weeklyActive inSeason seasonActive applies inForce forceMap forceOf accepted filtered filteredAt acceptedAt steppedOf unitsOf remainderOf credited creditIf unitsIf creditedAt unitsAt creditsOf namedPart sumOf sumAt sumsOf registerUnits dueOf fills billed dueAt fillsAt billedAt bookedOf level0At level0 termAt level2 inputValue sumValue functionValue slotValue slotValueAt slotValues multiple cleared clearedAt clearedLines closedAs tickOf bookingOf activeAt activeLines countedOf sampleOf setTo setOf closedBill closedBillAt resetOf readingOf freshState afterAll booksAt feeding productOf
+needed = record { few = refl; owed = refl; one-stretch = refl; many = refl; less = refl; three-stretches = refl }

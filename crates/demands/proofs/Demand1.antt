@@ -6,13 +6,12 @@ use mathlib.Core.Logic.{_⊎_, inl, inr, ⊎-elim}
 use Prim.Native.Nat.{ℕ, zero, suc, _+_, _*_, _/_, _<_, _≤_}
 use native.Mathlib.Nat.{le-refl}
 use native.Mathlib.Omega.{arith}
-use borrow.Author.Tests.{eqb-true, eqb-false, eq-eqb, ne-eqb, ltb-true, ltb-false, lt-ltb, le-ltb, leb-true, leb-false, le-leb, lt-leb}
+use borrow.Author.Tests.{eqb-true, eqb-false, eq-eqb, ltb-true, lt-ltb, leb-true, leb-false, le-leb, lt-leb}
 use lib.Dec.{eqb, ltb, leb}
 use lib.IntN.{ℤ}
 use lib.ListN.{length, getD, drop}
-use Rattle.laws.specs.If.{if_then_else_}
 use Rattle.laws.specs.Tests.{by-test, and-left, and-right, and-both, or-right}
-use Rattle.laws.specs.Any.{any, any-at, any-not}
+use Rattle.laws.specs.Any.{any, any-not}
 use Rattle.laws.specs.Answers.{Answer, given, refused}
 use Rattle.laws.specs.Broken.{firstBroken}
 use Rattle.laws.specs.Bytes.{le}
@@ -21,7 +20,7 @@ use Rattle.calendar.specs.Moments.{yearDay, momentOf}
 use Rattle.calendar.specs.declared.Moment.{Moment}
 use Rattle.image.specs.Image.{decode}
 use Rattle.image.specs.Check.{Section, sections, FirstBadAt, firstBad, checked}
-use Rattle.image.specs.Answers.{marked, imageAnswer, imageConfig, writeAnswer, afterWrite}
+use Rattle.image.specs.Answers.{marked, imageAnswer, writeAnswer, afterWrite}
 use Rattle.image.specs.declared.Config.{Config}
 use Rattle.image.proofs.Found.{value-exactly}
 use Rattle.recorder.specs.Bills.{fills, fillsAt, bookedOf}
@@ -32,10 +31,10 @@ use Rattle.recorder.specs.Calls.{startReply, sampleReply, setReply, readingRepl
 use Rattle.recorder.specs.declared.Recorder.{Recorder}
 use Rattle.recorder.specs.declared.Bill.{Bill}
 use Rattle.recorder.specs.declared.State.{State}
-use Rattle.registers.specs.Registers.{Group, groups, lookUp, groupOf, registersOf, fitted, replyOf, registerReply}
+use Rattle.registers.specs.Registers.{Group, groups, lookUp, groupOf, replyOf, registerReply}
 use Rattle.registers.proofs.Groups.{none-found}
 use Rattle.registers.proofs.Laws.{refused-leaves}
-use Rattle.demands.specs.Demand1.{Refusal, at, Ordered, numbered, imageRefusals, noDate, unitsFor, sampleRefusals, readingRefusals, bytesIn, registerRefusals, writeRefusals, ageRefusals, NumbersExact, RefusedChangesNothing, Demand1}
+use Rattle.demands.specs.Demand1.{Refusal, at, Ordered, numbered, imageRefusals, noDate, sampleRefusals, readingRefusals, registerRefusals, writeRefusals, ageRefusals, NumbersExact, RefusedChangesNothing, Demand1}
 
 -- a refusal whose condition is a test, and what comes after it
 next : {A : Type 0} (n o : ℕ) {when : Type 0} (rest : List Refusal) (test : Bool) (a : Answer A)

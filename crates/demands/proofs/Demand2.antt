@@ -1,21 +1,21 @@
 -- Demand 2: what a history says of clock and meters, by induction over the calls.
 use mathlib.Core.Path.{_≡_, refl, sym, ap, _∙_}
-use mathlib.Core.Bool.{Bool, true, false, true≢false, not, _&&_, _||_, and-false}
+use mathlib.Core.Bool.{Bool, true, false, not, _&&_, _||_, and-false}
 use mathlib.Core.List.{List, [], _∷_}
-use Prim.Native.Nat.{ℕ, zero, suc, _+_, _<_, _≤_, min}
+use Prim.Native.Nat.{ℕ, zero, suc, _+_, _<_, min}
 use native.Mathlib.Nat.{le-refl}
 use native.Mathlib.Omega.{arith}
-use borrow.Author.Tests.{eqb-true, eqb-false, eq-eqb, ne-eqb, ltb-true, ltb-false, leb-true, leb-false, lt-ltb, lt-leb}
+use borrow.Author.Tests.{eqb-true, eqb-false, ltb-true, ltb-false, leb-true, leb-false, lt-ltb, lt-leb}
 use lib.Dec.{eqb, ltb, leb}
 use lib.IntN.{ℤ}
 use lib.ListN.{length, getD, getD-replicate}
 use lib.Seq.{getD-set-same, getD-set-other}
-use Rattle.laws.specs.If.{if_then_else_, if-cases}
+use Rattle.laws.specs.If.{if_then_else_}
 use Rattle.laws.specs.Tests.{by-test}
 use Rattle.laws.specs.Answers.{Answer, given, refused}
 use Rattle.laws.specs.Masks.{bit}
 use Rattle.laws.specs.SignedTotal.{totalℤ}
-use Rattle.laws.specs.Tables.{table, table-at, table-cong}
+use Rattle.laws.specs.Tables.{table-at, table-cong}
 use Rattle.calendar.specs.Moments.{momentOf}
 use Rattle.calendar.specs.declared.Moment.{Moment}
 use Rattle.tariff.specs.Rules.{forceOf}
@@ -29,19 +29,18 @@ use Rattle.recorder.specs.Periods.{multiple, tickOf}
 use Rattle.recorder.specs.Samples.{activeAt, bookingOn, putIn, countedOf, clockEnd, sampleOf}
 use Rattle.recorder.specs.Clock.{setTo, setOf, resetOf}
 use Rattle.recorder.specs.Meters.{readingOf}
-use Rattle.recorder.specs.Calls.{freshState, sampleReply, setReply, readingReply, resetReply, replyTo}
-use Rattle.recorder.specs.History.{Call, sample, set as set-call, reading, reset, after, afterAll, freshStart}
+use Rattle.recorder.specs.Calls.{freshState, sampleReply, setReply, readingReply}
+use Rattle.recorder.specs.History.{sample, set as set-call, reading, reset, afterAll, freshStart}
 use Rattle.recorder.specs.declared.Meter.{Meter}
 use Rattle.recorder.specs.declared.Recorder.{Recorder}
 use Rattle.recorder.specs.declared.State.{State}
 use Rattle.recorder.proofs.Sound.{reached-is-sound, config-stays}
 use Rattle.registers.specs.Fleet.{meterAt, classAt, awakeValue, awakeSum, classesOf, fleetOf}
-use Rattle.demands.specs.Account.{Time, Event, took, cleared, timeOf, eventsOf, runOf, endsImpulse}
-use Rattle.demands.specs.Demand3.{Accepted}
+use Rattle.demands.specs.Account.{Time, Event, took, cleared, runOf, endsImpulse}
 use Rattle.demands.specs.Demand2.{ClockOfHistory, lastReading, MetersOfHistory, heard, FleetOfHistory, rejectedRuns, RejectedOfHistory, TariffOfMoment, Demand2}
 use Rattle.demands.proofs.Keeps.{rejectedAt, closedAt, Still, Booked, Closed, fresh}
 use Rattle.demands.proofs.Levels.{level-of-history}
-use Rattle.demands.proofs.Tracks.{clock-is, Runs, by-calls, held-range, next-held}
+use Rattle.demands.proofs.Tracks.{clock-is, Runs, by-calls, next-held}
 
 pub clock-of-history : ClockOfHistory
 clock-of-history c time calls = (ap (λ (t : Time). t .second) (clock-is c time calls), ap (λ (t : Time). t .samples) (clock-is c time calls))

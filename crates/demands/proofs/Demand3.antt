@@ -1,19 +1,18 @@
 -- The owner's third demand, proved of the real recorder under every configuration that the image check accepts.
 use mathlib.Core.Path.{_≡_, refl, sym, ap, subst, _∙_}
 use mathlib.Core.Bool.{Bool, true, false, not, _&&_, _||_}
-use mathlib.Core.List.{List, [], _∷_}
-use Prim.Native.Nat.{ℕ, _+_, _*_, _/_, _<_}
+use mathlib.Core.List.{List, _∷_}
+use Prim.Native.Nat.{ℕ, _+_, _*_, _<_}
 use native.Mathlib.Omega.{arith}
 use lib.Dec.{ltb, leb, eqb}
-use lib.ListN.{getD}
 use borrow.Author.Tests.{not-true, not-false, leb-true}
 use Rattle.laws.specs.If.{if_then_else_}
 use Rattle.laws.specs.Tests.{and-left, and-right, or-right}
-use Rattle.laws.specs.Any.{any, any-not}
+use Rattle.laws.specs.Any.{any-not}
 use Rattle.laws.specs.Each.{Each}
 use Rattle.laws.specs.Total.{total, total-cong}
 use Rattle.laws.specs.Masks.{bit, bitAt}
-use Rattle.image.specs.Rules.{noInput, inputGood, runsGood, ratioGood, sixZeros, fittedIn, sumGood}
+use Rattle.image.specs.Rules.{inputGood, runsGood, ratioGood, sixZeros, fittedIn, sumGood}
 use Rattle.image.specs.Check.{sections}
 use Rattle.image.specs.declared.Config.{Config}
 use Rattle.image.specs.declared.Input.{Input}
@@ -22,12 +21,12 @@ use Rattle.recorder.specs.Bills.{registerAt, partOf, namedPart, sumOf}
 use Rattle.recorder.specs.Calls.{freshState}
 use Rattle.recorder.specs.History.{Call}
 use Rattle.recorder.specs.declared.State.{State}
-use Rattle.demands.specs.Account.{Event, took, eventsOf, closedOf, openOf, whole, since, booksAt, stretchesOf, impulsesOf, feeding, countOf, scaleOf, energyOf}
+use Rattle.demands.specs.Account.{Event, took, eventsOf, closedOf, whole, since, booksAt, stretchesOf, impulsesOf, feeding, countOf, scaleOf, energyOf}
 use Rattle.demands.specs.Demand3.{Accepted, InUse, WithoutRule, Near, OpenAmount, PlainBills, OnSumOf, ExactlyOne, AmountsAddUp}
 use Rattle.demands.proofs.Sums.{added, added-cong, added-zero, added-share}
 use Rattle.demands.proofs.Rounding.{near-one, near-all, rounded-down}
-use Rattle.demands.proofs.Keeps.{amountAt, broughtAt, Still, Booked, Closed, fresh}
-use Rattle.demands.proofs.Tracks.{reached, by-calls, Fitted, sum-added, paysOf, Tracked, tracked}
+use Rattle.demands.proofs.Keeps.{amountAt, broughtAt, Booked, fresh}
+use Rattle.demands.proofs.Tracks.{reached, by-calls, Fitted, paysOf, tracked}
 
 -- What the definitions say
 

@@ -1,18 +1,14 @@
 -- The example's numbers, computed.
-use mathlib.Core.Path.{_≡_, refl}
-use mathlib.Core.List.{List, [], _∷_}
+use mathlib.Core.Path.{refl}
 use Prim.Native.Nat.{ℕ, zero, suc, _<_}
 use native.Mathlib.Omega.{arith}
-use lib.IntN.{pos}
-use lib.ListN.{getD, replicate}
-use Rattle.laws.specs.Each.{Each}
+use lib.ListN.{replicate}
 use Rattle.laws.specs.First.{first}
 use Rattle.laws.specs.Any.{any}
 use Rattle.laws.specs.Total.{total}
 use Rattle.laws.specs.Spans.{span}
 use Rattle.laws.specs.Masks.{maskOf, bitAt}
 use Rattle.laws.specs.Tables.{table}
-use Rattle.laws.specs.Answers.{given}
 use Rattle.calendar.specs.Dates.{monthLength, yearLength}
 use Rattle.calendar.specs.Moments.{yearDay, momentOf}
 use Rattle.tariff.specs.Daily.{windowActive, dailyActive}
@@ -21,7 +17,6 @@ use Rattle.tariff.specs.Seasons.{inSeason, seasonActive}
 use Rattle.tariff.specs.Rules.{applies, inForce, forceMap, forceOf}
 use Rattle.image.specs.Rules.{noInput, fittedIn, sumGood}
 use Rattle.image.specs.Check.{sections, firstBad, checked}
-use Rattle.image.specs.declared.Config.{Config}
 use Rattle.image.proofs.Found.{good-exactly}
 use Rattle.recorder.specs.Filter.{inputAt, accepted, filtered, filteredAt, acceptedAt, steppedOf}
 use Rattle.recorder.specs.Units.{unitsOf, remainderOf, credited, creditIf, unitsIf, creditedAt, unitsAt, creditsOf}
@@ -34,8 +29,8 @@ use Rattle.recorder.specs.Meters.{readingOf}
 use Rattle.recorder.specs.Calls.{freshState}
 use Rattle.recorder.specs.History.{afterAll}
 use Rattle.recorder.specs.Laws.{Good}
-use Rattle.demands.specs.Account.{eventsOf, closedOf, openOf, whole, since, booksAt, always, stretchesOf, feeding, countOf, productOf, scaleOf, energyOf, wholeUnitsOf}
-use Rattle.demands.specs.Example.{twoMakers, start, calls, events, Numbers, byDay, dayAndNightThrice, Needed}
+use Rattle.demands.specs.Account.{booksAt, feeding, productOf}
+use Rattle.demands.specs.Example.{twoMakers, Numbers, Needed}
 
 -- the check finds nothing
 is-good : Good twoMakers

@@ -1,7 +1,7 @@
 -- The history of specs/Full.antt: between two impulses all that differs is the amount.
 use mathlib.Core.Path.{_≡_, refl, sym, ap, subst, _∙_}
 use mathlib.Core.Bool.{false}
-use mathlib.Core.List.{List, [], _∷_}
+use mathlib.Core.List.{List, _∷_}
 use Prim.Native.Nat.{ℕ, zero, suc, _+_, _*_, _≤_}
 use native.Mathlib.Nat.{add-zero}
 use native.Mathlib.Omega.{arith}
@@ -17,17 +17,17 @@ use Rattle.laws.specs.Masks.{maskOf, bitAt}
 use Rattle.laws.specs.Tables.{table}
 use Rattle.calendar.specs.Dates.{monthLength, yearLength}
 use Rattle.calendar.specs.Moments.{yearDay, momentOf}
-use Rattle.recorder.specs.Filter.{lineAt, accepted, filtered, filteredAt, acceptedAt, steppedOf}
+use Rattle.recorder.specs.Filter.{accepted, filtered, filteredAt, acceptedAt, steppedOf}
 use Rattle.recorder.specs.Units.{unitsOf, remainderOf, credited, creditIf, unitsIf, creditedAt, unitsAt, creditsOf}
 use Rattle.recorder.specs.Bills.{billAt, namedPart, sumOf, sumAt, sumsOf, registerUnits, dueOf, fills, billed, dueAt, fillsAt, billedAt, bookedOf}
 use Rattle.recorder.specs.Levels.{level0At, level0, slotValue, slotValueAt, slotValues}
-use Rattle.recorder.specs.Periods.{multiple, cleared, clearedAt, clearedLines, closedAs, tickOf}
+use Rattle.recorder.specs.Periods.{cleared, clearedAt, clearedLines, closedAs}
 use Rattle.recorder.specs.Samples.{bookingOf, activeAt, activeLines, countedOf, sampleOf}
 use Rattle.recorder.specs.Clock.{setTo, setOf}
 use Rattle.recorder.specs.Calls.{freshState, sampleReply}
 use Rattle.recorder.specs.History.{Call, sample, set, after, afterAll, freshStart}
 use Rattle.recorder.specs.declared.Recorder.{Recorder}
-use Rattle.demands.specs.Full.{largeHall, impulses, nearlyFull, FullIsGiven}
+use Rattle.demands.specs.Full.{largeHall, impulses, FullIsGiven}
 
 -- the recorder between two impulses, with an amount, and the samples and the run of its lines
 abbrev holding : ℕ → ℕ → ℕ → Recorder

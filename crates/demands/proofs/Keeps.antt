@@ -1,30 +1,27 @@
 -- What each call does to runs, remainders, open amounts and clock of the real recorder, from its definitions.
-use mathlib.Core.Path.{_≡_, refl, sym, ap, _∙_}
+use mathlib.Core.Path.{_≡_, refl, ap, _∙_}
 use mathlib.Core.Bool.{Bool, true, false, _&&_, _||_, not}
 use mathlib.Core.List.{List}
 use Prim.Native.Nat.{ℕ, _+_, _/_, _<_}
-use native.Mathlib.Nat.{add-zero}
 use native.Mathlib.Omega.{arith}
 use lib.Dec.{ltb, leb, eqb}
 use lib.IntN.{ℤ}
 use lib.ListN.{getD, getD-replicate}
 use borrow.Author.Tests.{lt-ltb, leb-true, leb-false, eq-eqb, ne-eqb}
 use Rattle.laws.specs.If.{if_then_else_, if-cases}
-use Rattle.laws.specs.Tests.{by-test}
 use Rattle.laws.specs.Any.{any-not}
 use Rattle.laws.specs.Total.{total-cong}
-use Rattle.laws.specs.Masks.{maskOf, bitAt, bit-at}
+use Rattle.laws.specs.Masks.{bitAt, bit-at}
 use Rattle.laws.specs.Tables.{table, table-at}
-use Rattle.laws.specs.Answers.{Answer, given, refused}
+use Rattle.laws.specs.Answers.{Answer}
 use Rattle.calendar.specs.Moments.{yearDay, momentOf}
 use Rattle.calendar.specs.declared.Moment.{Moment}
 use Rattle.tariff.specs.Rules.{forceMapAt}
 use Rattle.image.specs.declared.Config.{Config}
 use Rattle.image.specs.declared.Input.{Input}
-use Rattle.image.specs.declared.Register.{Register}
 use Rattle.recorder.specs.Filter.{inputAt, lineAt, nextRun, accepted, filtered, filteredAt, acceptedAt, steppedOf, oneMore, ends, fitting}
 use Rattle.recorder.specs.Units.{unitsOf, remainderOf, credited, creditIf, unitsIf, creditedAt, unitsAt, creditsOf}
-use Rattle.recorder.specs.Bills.{registerAt, billAt, unitAt, partOf, namedPart, sumOf, sumAt, sumsOf, registerUnits, feeds, dueOf, fills, billed, dueAt, fillsAt, billedAt, bookedOf}
+use Rattle.recorder.specs.Bills.{registerAt, billAt, unitAt, partOf, namedPart, sumOf, sumAt, sumsOf, registerUnits, dueOf, billed, dueAt, fillsAt, billedAt, bookedOf}
 use Rattle.recorder.specs.Periods.{multiple, cleared, clearedAt, clearedLines, tickOf}
 use Rattle.recorder.specs.Samples.{bookingOf, activeAt, activeLines, bookingOn, putIn, countedOf, clockEnd, sampleOf}
 use Rattle.recorder.specs.Clock.{setTo, setDated, setOf, closedBill, closedBillAt, resetOf}

@@ -5,13 +5,13 @@ use mathlib.Core.List.{List, [], _∷_}
 use Prim.Native.Nat.{ℕ, _+_, _*_, _/_, _<_}
 use native.Mathlib.Nat.{add-zero, zero-add}
 use native.Mathlib.Omega.{arith}
-use borrow.Author.Tests.{eq-eqb, ne-eqb, leb-true, leb-false, eqb-false}
+use borrow.Author.Tests.{eq-eqb, ne-eqb, leb-true, leb-false}
 use lib.Dec.{eqb, ltb, leb}
 use lib.IntN.{ℤ}
 use lib.ListN.{getD, getD-replicate}
 use Rattle.laws.specs.If.{if_then_else_, if-cases}
 use Rattle.laws.specs.Tests.{by-test}
-use Rattle.laws.specs.Answers.{Answer, given, refused}
+use Rattle.laws.specs.Answers.{Answer}
 use Rattle.calendar.specs.Moments.{yearDay, momentOf}
 use Rattle.calendar.specs.declared.Moment.{Moment}
 use Rattle.image.specs.Check.{sections}
@@ -19,21 +19,21 @@ use Rattle.image.specs.declared.Config.{Config}
 use Rattle.image.specs.declared.Input.{Input}
 use Rattle.recorder.specs.Filter.{inputAt, lineAt, nextRun, filtered}
 use Rattle.recorder.specs.Units.{unitsOf, heldSum, credited, creditIf}
-use Rattle.recorder.specs.Periods.{multiple, cleared, clearedAt, clearedLines, tickOf}
+use Rattle.recorder.specs.Periods.{multiple, cleared, tickOf}
 use Rattle.recorder.specs.Samples.{activeAt, bookingOn, putIn, countedOf, clockEnd, sampleOf}
 use Rattle.recorder.specs.Clock.{setTo, setDated, setOf, resetOf}
 use Rattle.recorder.specs.Meters.{readingOf}
 use Rattle.recorder.specs.Calls.{freshState, replyTo}
-use Rattle.recorder.specs.History.{Call, sample, set, reading, reset, afterAll, freshStart}
+use Rattle.recorder.specs.History.{Call, sample, set, reading, reset, afterAll}
 use Rattle.recorder.specs.declared.Line.{Line}
 use Rattle.recorder.specs.declared.State.{State}
 use Rattle.recorder.proofs.Sound.{config-stays, reached-is-sound}
 use Rattle.recorder.proofs.Bounded.{hold-never-acts}
-use Rattle.demands.specs.Account.{Time, Event, took, cleared as cleared-event, Sample, takesSample, takesSet, timeOf, eventsOf, runOf, endsImpulse, whole, always, impulsesOf}
+use Rattle.demands.specs.Account.{Event, took, cleared as cleared-event, Sample, takesSample, takesSet, timeOf, eventsOf, runOf, endsImpulse, whole, always, impulsesOf}
 use Rattle.demands.specs.Demand2.{closesPeriod, beforePeriod, LevelOfHistory}
 use Rattle.demands.specs.Demand3.{Accepted}
-use Rattle.demands.proofs.Rounding.{nextRem, paidUnits, rem, units, rounded-down}
-use Rattle.demands.proofs.Keeps.{remAt, closedAt, timeAt, bringsAt, broughtAt, Still, Booked, Closed, line-after, cleared-line, fresh}
+use Rattle.demands.proofs.Rounding.{paidUnits, rem, units, rounded-down}
+use Rattle.demands.proofs.Keeps.{remAt, closedAt, bringsAt, broughtAt, Still, Booked, Closed, line-after, cleared-line, fresh}
 use Rattle.demands.proofs.Tracks.{reached, clock-is, Runs, by-calls, Fitted, next-held, same-impulse, unit-is, rem-is}
 use Rattle.demands.proofs.Demand3.{good-denominator}
 

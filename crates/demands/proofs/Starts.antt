@@ -12,11 +12,9 @@ use Rattle.calendar.specs.declared.Moment.{Moment}
 use Rattle.image.specs.Rules.{noInput}
 use Rattle.image.specs.Entries.{inputOf}
 use Rattle.image.specs.Image.{decode}
-use Rattle.image.specs.Answers.{imageAnswer, orBlank, imageConfig}
-use Rattle.image.specs.declared.Config.{Config}
+use Rattle.image.specs.Answers.{imageAnswer, imageConfig}
 use Rattle.image.specs.declared.Input.{Input}
 use Rattle.image.proofs.Found.{read-holds}
-use Rattle.recorder.specs.Filter.{inputAt}
 use Rattle.recorder.specs.Calls.{startDated, startFrom}
 use Rattle.recorder.specs.History.{freshStart}
 use Rattle.demands.specs.Demand3.{Accepted, StartIsFresh}

@@ -3,7 +3,7 @@ use mathlib.Core.Path.{_≡_, refl, sym, ap, _∙_}
 use mathlib.Core.Bool.{Bool, true, false}
 use mathlib.Core.Logic.{⊎-elim}
 use Prim.Native.Nat.{ℕ, zero, suc, _+_, _*_, _/_, _<_, _≤_}
-use native.Mathlib.Nat.{add-mul, mul-add, mul-assoc, mul-left-comm, mul-comm, mul-one, one-mul, zero-mul, mul-zero, mul-pos, mul-le-mul-left, mul-le-mul-right, mul-div-cancel-left, eq-or-lt-of-le, le-of-suc-le-suc}
+use native.Mathlib.Nat.{add-mul, mul-add, mul-assoc, mul-comm, mul-one, one-mul, zero-mul, mul-zero, mul-pos, mul-le-mul-left, mul-le-mul-right, mul-div-cancel-left, eq-or-lt-of-le, le-of-suc-le-suc}
 use native.Mathlib.Omega.{arith}
 use Rattle.laws.specs.If.{if_then_else_}
 use Rattle.laws.specs.Tests.{by-test}

@@ -2,10 +2,10 @@
 use mathlib.Core.Path.{_≡_, refl, sym, ap, ap₂, subst, _∙_}
 use mathlib.Core.Bool.{Bool, true, false, not, _&&_, and-false}
 use mathlib.Core.List.{List, [], _∷_}
-use Prim.Native.Nat.{ℕ, suc, _+_, _/_, _%_, _≤_, _<_, min}
+use Prim.Native.Nat.{ℕ, suc, _+_, _<_, min}
 use native.Mathlib.Omega.{arith}
-use lib.Dec.{ltb, leb, eqb}
-use borrow.Author.Tests.{lt-ltb, le-ltb, ltb-true, ltb-false, leb-true, leb-false, lt-leb, ne-eqb}
+use lib.Dec.{ltb, leb}
+use borrow.Author.Tests.{ltb-true, ltb-false, leb-true, leb-false, lt-leb, ne-eqb}
 use Rattle.laws.specs.If.{if_then_else_}
 use Rattle.laws.specs.Tests.{by-test}
 use Rattle.laws.specs.Masks.{bitAt}
@@ -17,7 +17,6 @@ use Rattle.recorder.specs.Bills.{namedPart, sumOf}
 use Rattle.recorder.specs.Samples.{activeAt}
 use Rattle.recorder.specs.Calls.{freshState}
 use Rattle.recorder.specs.History.{Call, sample, set, reading, reset, afterAll, freshStart}
-use Rattle.recorder.specs.declared.Line.{Line}
 use Rattle.recorder.specs.declared.State.{State}
 use Rattle.recorder.specs.declared.Recorder.{Recorder}
 use Rattle.recorder.proofs.Sound.{config-stays, reached-is-sound}
@@ -25,7 +24,7 @@ use Rattle.demands.specs.Account.{Time, tick, Event, took, cleared, Samp
 use Rattle.demands.specs.Demand3.{InUse}
 use Rattle.demands.proofs.Sums.{added, added-cong, added-zero, added-pick}
 use Rattle.demands.proofs.Rounding.{nextRem, paidUnits, rem, units, rem-lt}
-use Rattle.demands.proofs.Keeps.{runAt, remAt, amountAt, closedAt, timeAt, bringsAt, broughtAt, SameLines, Still, Booked, Closed, SampleStep, SetStep, sample-step, set-step, reading-step, reset-step, kept, Fresh, fresh}
+use Rattle.demands.proofs.Keeps.{runAt, remAt, amountAt, closedAt, timeAt, bringsAt, broughtAt, SameLines, Still, Booked, Closed, SampleStep, SetStep, sample-step, set-step, reading-step, reset-step, fresh}
 
 -- the recorder and its state after these calls
 abbrev pub reached : Config → ℕ → List Call → Recorder

@@ -14,7 +14,6 @@ use Rattle.recorder.specs.Bills.{registerAt, billAt, sumOf, feeds}
 use Rattle.recorder.specs.Samples.{activeAt}
 use Rattle.recorder.specs.Calls.{sampleReply, setReply}
 use Rattle.recorder.specs.History.{Call, sample, set, reading, reset, afterAll, freshStart}
-use Rattle.recorder.specs.declared.Recorder.{Recorder}
 
 -- the clock's second, and the samples in this second
 pub record Time : Type 0 where

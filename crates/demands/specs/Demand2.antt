@@ -24,7 +24,6 @@ use Rattle.recorder.specs.Calls.{freshState, readingReply}
 use Rattle.recorder.specs.History.{Call, sample, set, reading, reset, afterAll, freshStart}
 use Rattle.recorder.specs.declared.Meter.{Meter}
 use Rattle.recorder.specs.declared.Recorder.{Recorder}
-use Rattle.recorder.specs.declared.State.{State}
 use Rattle.registers.specs.Fleet.{meterAt, fleetOf}
 use Rattle.registers.specs.Laws.{InvalidMark, AwakeUnmarked, BytesAsTable}
 use Rattle.demands.specs.Account.{takesSample, takesSet, timeOf, Event, took, cleared, eventsOf, runOf, endsImpulse, whole, always, impulsesOf}

@@ -1,6 +1,5 @@
 -- A history worked out: two makers share a recorder, each with a day amount, a night amount and one without a tariff. All numbers below are computed in proofs/Example.antt.
 use mathlib.Core.Path.{_≡_}
-use mathlib.Core.Bool.{Bool}
 use mathlib.Core.List.{List, [], _∷_, _++_, reverse}
 use Prim.Native.Nat.{ℕ}
 use lib.Dec.{ltb}
@@ -11,7 +10,7 @@ use Rattle.laws.specs.Tables.{table}
 use Rattle.tariff.specs.declared.Program.{Program}
 use Rattle.image.specs.declared.Config.{Config}
 use Rattle.recorder.specs.History.{Call, sample, set, reading, reset}
-use Rattle.demands.specs.Account.{Event, took, cleared, Sample, eventsOf, closedOf, openOf, whole, since, booksAt, always, stretchesOf, feeding, countOf, scaleOf, energyOf, wholeUnitsOf}
+use Rattle.demands.specs.Account.{Event, took, cleared, eventsOf, closedOf, openOf, whole, since, booksAt, always, stretchesOf, feeding, countOf, scaleOf, energyOf, wholeUnitsOf}
 use Rattle.demands.specs.Demand3.{Accepted, ExactlyOne}
 
 -- tariff rule 0 is the day, 06:00 to 22:00, and rule 1 the night, every day

@@ -1,28 +1,27 @@
 -- The laws of specs/Laws.antt on the fleet.
-use mathlib.Core.Path.{_≡_, refl, sym, ap, _∙_}
+use mathlib.Core.Path.{_≡_, refl, ap, _∙_}
 use mathlib.Core.Bool.{Bool, true, false, not, cond}
 use mathlib.Core.List.{List}
 use Prim.Native.Nat.{ℕ, zero, suc, _+_, _*_, _%_, _^_, _≤_, zero-le}
 use native.Mathlib.Omega.{arith}
-use borrow.Author.Tests.{lt-ltb, le-ltb, ltb-true, ltb-false, ne-eqb}
+use borrow.Author.Tests.{ltb-true, ltb-false, ne-eqb}
 use lib.Dec.{eqb, ltb}
-use lib.IntN.{ℤ, pos, natAbs, _+ℤ_}
+use lib.IntN.{ℤ, pos, natAbs}
 use lib.ListN.{getD}
 use lib.Signed.{natAbs-le}
 use mir.Syntax.{w32, w64}
 use mir.Val.{SFits}
 use mir.Facts.{toZ-ofZ}
-use Rattle.laws.specs.If.{if_then_else_, if-cases}
+use Rattle.laws.specs.If.{if-cases}
 use Rattle.laws.specs.Tests.{by-test}
 use Rattle.laws.specs.Keys.{in-range}
 use Rattle.laws.specs.Masks.{bit}
-use Rattle.laws.specs.Tables.{table, table-at}
+use Rattle.laws.specs.Tables.{table-at}
 use Rattle.laws.specs.Total.{total, total-cong, total-plus}
-use Rattle.laws.specs.Counts.{countOf, ones-mask}
+use Rattle.laws.specs.Counts.{ones-mask}
 use Rattle.laws.specs.SignedTotal.{totalℤ, abs-add, abs-fits}
 use Rattle.recorder.specs.Meters.{classOf}
 use Rattle.recorder.specs.declared.Meter.{Meter}
-use Rattle.recorder.specs.declared.Recorder.{Recorder}
 use Rattle.registers.specs.Fleet.{meterAt, meterClass, classAt, hasClass, hasAny, awakeValue, awakeSum, classesOf, fleetOf}
 use Rattle.registers.specs.Laws.{OnesAreCounts, FittedCounted, CountsAddUp, SumExact}
 

@@ -2,13 +2,13 @@
 use mathlib.Core.Path.{_≡_, refl, sym, ap, _∙_}
 use mathlib.Core.Bool.{Bool, true, false, true≢false, not}
 use mathlib.Core.List.{List, _++_}
-use Prim.Native.Nat.{ℕ, _+_, _*_, _/_, _%_, _≤_, _<_}
+use Prim.Native.Nat.{ℕ, _+_, _%_, _≤_}
 use native.Mathlib.Omega.{arith}
 use borrow.Author.Tests.{leb-true, ne-eqb, eqb-false}
 use lib.Dec.{eqb, leb, ltb}
 use lib.IntN.{ℤ}
 use lib.ListN.{length, getD, drop}
-use Rattle.laws.specs.If.{if_then_else_, if-cases}
+use Rattle.laws.specs.If.{if-cases}
 use Rattle.laws.specs.Tests.{by-test}
 use Rattle.laws.specs.Answers.{Answer, given, refused}
 use Rattle.laws.specs.Bytes.{bytesOf}
@@ -18,7 +18,7 @@ use Rattle.recorder.specs.declared.Bill.{Bill}
 use Rattle.recorder.specs.declared.Meter.{Meter}
 use Rattle.registers.specs.Contents.{statusShown, serialBytes, meterBytes, mapBytes, resultBytes, dailyBytes, weeklyBytes, level9Bytes, slotBytes, billBytes, inputBytes, fleetBytes, clockBytes}
 use Rattle.registers.specs.Fleet.{meterAt, meterClass, classAt}
-use Rattle.registers.specs.Registers.{Group, groups, lookUp, groupOf, heldBy, contentsOf, Reply, refusal, reading, replyOf, registerReply}
+use Rattle.registers.specs.Registers.{Group, groups, lookUp, groupOf, heldBy, Reply, refusal, reading, replyOf, registerReply}
 use Rattle.registers.specs.Laws.{BytesAsTable, RefusedLeaves, GivenFirst, InvalidMark, AwakeUnmarked}
 use Rattle.registers.proofs.Groups.{each-found, is-given, the}
 

@@ -4,7 +4,7 @@ use mathlib.Core.Bool.{true, false}
 use mathlib.Core.List.{List, [], _∷_}
 use Prim.Native.Nat.{ℕ}
 use lib.IntN.{pos}
-use lib.ListN.{getD, replicate, drop}
+use lib.ListN.{getD, replicate}
 use Rattle.laws.specs.Bytes.{bytesOf}
 use Rattle.laws.specs.Each.{Each}
 use Rattle.image.specs.Image.{blankProgram}

@@ -1,6 +1,6 @@
 -- What the registers hold, group by group: the third column of document 01's table. "Numbers in .. registers have the least significant byte first; signed ones are two's complement."
 use mathlib.Core.Bool.{Bool, false}
-use mathlib.Core.List.{List, [], _∷_, _++_}
+use mathlib.Core.List.{List, _++_}
 use Prim.Native.Nat.{ℕ, _+_, _-_, _*_, _/_, _%_}
 use lib.Dec.{eqb}
 use lib.IntN.{ℤ, pos}

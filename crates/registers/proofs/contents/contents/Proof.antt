@@ -1,10 +1,9 @@
 -- `registers::contents::contents` meets its contract: a key computes its line of the table; no other group has a register.
-use mathlib.Core.Path.{_≡_, refl, ap, _∙_}
+use mathlib.Core.Path.{_∙_}
 use Prim.Native.Nat.{_<_}
 use native.Mathlib.Omega.{arith}
 use borrow.Author.Needs.{needs}
-use Rattle.registers.specs.Contents.{padded, fleetBytes}
-use Rattle.registers.specs.Registers.{groups, lookUp, registersOf, contentsOf, heldBy}
+use Rattle.registers.specs.Registers.{groups, lookUp}
 use Rattle.registers.proofs.Groups.{none-found}
 use Rattle.registers.proofs.contents.contents.Statement.{statement}
 use Rattle.registers.proofs.contents.contents.Tie as tie

@@ -1,9 +1,8 @@
 -- `registers::contents::status_shown` meets its contract: `| 1` sets the lowest bit.
 use mathlib.Core.Path.{_≡_, _∙_}
-use Prim.Native.Nat.{ℕ, _+_, _*_, _/_, _%_, max, _<_}
+use Prim.Native.Nat.{ℕ, _%_, max, _<_}
 use native.Mathlib.Nat.{mod-lt}
 use native.Mathlib.Omega.{arith}
-use borrow.Author.Needs.{needs}
 use borrow.Author.Tests.{eq-eqb, ne-eqb}
 use lib.Bits.{bitOr, or-step, or-zero-r}
 use lib.Dec.{lit<}

@@ -1,6 +1,6 @@
 -- `registers::fleet::awake_sum` meets its contract. The loop's invariant: the sum, read from its bits, is that of the awake values before i, at most 2 ^ 31 from 0 for each.
-use mathlib.Core.Path.{_≡_, refl, _∙_}
-use Prim.Native.Nat.{ℕ, _+_, _-_, _*_, _^_, _≤_}
+use mathlib.Core.Path.{_≡_, _∙_}
+use Prim.Native.Nat.{_+_, _-_, _*_, _^_, _≤_}
 use native.Mathlib.Omega.{arith}
 use borrow.Author.Needs.{needs}
 use lib.IntN.{natAbs}

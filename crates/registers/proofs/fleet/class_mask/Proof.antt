@@ -1,5 +1,5 @@
 -- `registers::fleet::class_mask` meets its contract. The loop's invariant: the mask of the meters before i.
-use mathlib.Core.Path.{_≡_, refl, sym}
+use mathlib.Core.Path.{_≡_, sym}
 use Prim.Native.Nat.{_-_, _≤_}
 use native.Mathlib.Omega.{arith}
 use borrow.Author.Needs.{needs}

@@ -1,11 +1,11 @@
 -- `registers::numbers::with_number` meets its contract. The loop's invariant: what is left of the number goes to the places that are left.
-use mathlib.Core.Path.{_≡_, refl, sym, ap, _∙_}
+use mathlib.Core.Path.{_≡_, sym, _∙_}
 use mathlib.Core.List.{List}
-use Prim.Native.Nat.{ℕ, zero, suc, _+_, _-_, _%_, _/_, _≤_, _<_}
+use Prim.Native.Nat.{ℕ, suc, _+_, _-_, _%_, _/_, _≤_, _<_}
 use native.Mathlib.Nat.{add-zero, sub-zero}
 use native.Mathlib.Omega.{arith}
 use borrow.Author.Needs.{needs}
-use lib.ListN.{length, set, length-set}
+use lib.ListN.{set}
 use lib.Seq.{sets}
 use Rattle.laws.specs.Bytes.{bytesOf}
 use Rattle.registers.proofs.numbers.with_number.Statement.{statement}

@@ -10,6 +10,5 @@ pub mod Demand2
 pub mod Demand3
 pub mod Table
 pub mod Tightness
-pub mod Full
 pub mod Example
 pub mod Checks

@@ -7,3 +7,4 @@ pub mod Demand3
 pub mod Starts
 pub mod Example
 pub mod Checks
+pub mod Full

@@ -2,7 +2,7 @@
 use mathlib.Core.Path.{_≡_}
 use mathlib.Core.Bool.{Bool}
 use mathlib.Core.List.{List, [], _∷_, _++_, reverse}
-use Prim.Native.Nat.{ℕ}
+use Prim.Native.Nat.{ℕ, zero, suc, _<_}
 use lib.Dec.{ltb}
 use lib.IntN.{pos}
 use lib.ListN.{replicate}
@@ -10,8 +10,9 @@ use Rattle.laws.specs.Each.{Each}
 use Rattle.laws.specs.Tables.{table}
 use Rattle.tariff.specs.declared.Program.{Program}
 use Rattle.image.specs.declared.Config.{Config}
-use Rattle.recorder.specs.History.{Call, sample, set, reading, reset}
-use Rattle.demands.specs.Account.{Event, took, cleared, Sample, eventsOf, closedOf, openOf, whole, since, booksAt, always, stretchesOf, feeding, countOf, scaleOf, energyOf, wholeUnitsOf}
+use Rattle.recorder.specs.Calls.{sampleReply}
+use Rattle.recorder.specs.History.{Call, sample, set, reading, reset, afterAll, freshStart}
+use Rattle.demands.specs.Account.{Event, took, cleared, Sample, eventsOf, closedOf, openOf, whole, since, booksAt, always, impulsesOf, stretchesOf, feeding, countOf, scaleOf, energyOf, wholeUnitsOf}
 use Rattle.demands.specs.Demand3.{Accepted, ExactlyOne}
 
 -- tariff rule 0 is the day, 06:00 to 22:00, and rule 1 the night, every day
@@ -129,3 +130,37 @@ pub record Needed : Type 0 where
   pub many : openOf twoMakers start 4 dayAndNightThrice ≡ 9
   pub less : energyOf twoMakers (booksAt twoMakers 4) (feeding twoMakers 4) (since twoMakers (eventsOf twoMakers start dayAndNightThrice)) ≡ 15
   pub three-stretches : stretchesOf (booksAt twoMakers 4) (since twoMakers (eventsOf twoMakers start dayAndNightThrice)) ≡ 3
+
+-- FULL inside a history
+
+-- sixteen inputs on sum 0, each with 10,000 units for an impulse of one sample, and bill register 0 on that sum without a tariff
+abbrev pub fullMaker : Config
+fullMaker =
+    record {
+      period = 15;
+      inputs = replicate 16 (record { kind = 1; shortest = 1; longest = 1; numerator = 10_000; denominator = 1 });
+      sums = 65_535 ∷ replicate 7 0;
+      coefficients = replicate 32 (pos 0);
+      slots = replicate 16 (record { level = 255; index = 0 });
+      limits = replicate 32 0;
+      program = dayAndNight;
+      registers = record { sum = 0; rule = 255 } ∷ replicate 15 (record { sum = 255; rule = 255 });
+    }
+
+-- n impulses of all inputs together
+unfoldable pub pulses : ℕ → List Call
+pulses zero = []
+pulses (suc n) = sample 0 ∷ sample 65_535 ∷ pulses n
+
+-- 6,249 of them, and all lines closed for the next
+abbrev pub nearlyFull : List Call
+nearlyFull = sample 65_535 ∷ pulses 6_249
+
+-- the sample that would end the 6,250th is refused, counts for nothing in the account, and is accepted after a reset: the runs went on
+pub record Filled : Type 0 where
+  pub accepted : Accepted fullMaker
+  pub opened : openOf fullMaker 0 0 nearlyFull ≡ 999_840_000
+  pub refused : sampleReply (afterAll (freshStart fullMaker 0) nearlyFull) 0 .number ≡ 6
+  pub impulses : (i : ℕ) → i < 16 → impulsesOf always i (whole fullMaker (eventsOf fullMaker 0 (sample 0 ∷ nearlyFull))) ≡ 6_249
+  pub closed : closedOf fullMaker 0 0 (sample 0 ∷ reset ∷ sample 0 ∷ nearlyFull) ≡ 999_840_000
+  pub anew : openOf fullMaker 0 0 (sample 0 ∷ reset ∷ sample 0 ∷ nearlyFull) ≡ 160_000

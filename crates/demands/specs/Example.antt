@@ -13,7 +13,7 @@ use Rattle.image.specs.declared.Config.{Config}
 use Rattle.recorder.specs.Calls.{sampleReply}
 use Rattle.recorder.specs.History.{Call, sample, set, reading, reset, afterAll, freshStart}
 use Rattle.demands.specs.Account.{Event, took, cleared, Sample, eventsOf, closedOf, openOf, whole, since, booksAt, always, impulsesOf, stretchesOf, feeding, countOf, scaleOf, energyOf, wholeUnitsOf}
-use Rattle.demands.specs.Demand3.{Accepted, ExactlyOne}
+use Rattle.demands.specs.Demand3.{Accepted, OnSumOf, ExactlyOne}
 
 -- tariff rule 0 is the day, 06:00 to 22:00, and rule 1 the night, every day
 abbrev pub dayAndNight : Program
@@ -29,8 +29,8 @@ dayAndNight =
       rules = record { season = 255; week = 0 } ∷ record { season = 255; week = 1 } ∷ replicate 14 (record { season = 255; week = 255 });
     }
 
--- one maker has inputs 0 (S1a, runs 1 to 8, 3/10) and 1 (S1r, runs 2 to 8, 7/4) on sum 0, the other input 2 (S1a, runs 1 to 255, 5/2) on sum 1; bill registers 0, 1, 2 are the day, the night
--- and no tariff on sum 0; 3, 4, 5 the same on sum 1; serial meter 0 is fitted
+-- one maker has inputs 0 (S1a, runs 1 to 8, 3/10) and 1 (S1r, runs 2 to 8, 7/4) on sum 0, the other input 2 (S1a, runs 1 to 255, 5/2) on sum 1; bill registers 0, 1
+-- and 2 are the day, the night and no tariff on sum 0; 3, 4 and 5 the same on sum 1; serial meter 0 is fitted
 abbrev pub twoMakers : Config
 twoMakers =
     record {
@@ -92,6 +92,10 @@ events =
 abbrev six : (ℕ → ℕ) → List ℕ
 six f = table 6 f
 
+-- registers 0 and 1
+abbrev pub firstTwo : ℕ → Bool
+firstTwo j = ltb j 2
+
 -- what the theorems speak of, register by register: 0 and 3 by day, 1 and 4 by night, 2 and 5 without a tariff
 pub record Numbers : Type 0 where
   -- the configuration is one that the image check accepts, and the events are those above
@@ -107,8 +111,9 @@ pub record Numbers : Type 0 where
   pub stretches : six (λ j. stretchesOf (booksAt twoMakers j) (since twoMakers events)) ≡ 1 ∷ 2 ∷ 1 ∷ 1 ∷ 2 ∷ 1 ∷ []
   -- the exact energy of the whole history, rounded down once for each feeding input: closed and open of registers 2 and 5 together
   pub total : six (λ j. wholeUnitsOf twoMakers always (feeding twoMakers j) (whole twoMakers events)) ≡ 4 ∷ 4 ∷ 4 ∷ 15 ∷ 15 ∷ 15 ∷ []
-  -- exactly one of the rules of registers 0 and 1 was in force at each sample since the reset: 0 and 2 are 2
-  pub once : Each (ExactlyOne twoMakers (λ j. ltb j 2)) (since twoMakers events)
+  -- exactly one of the rules of registers 0 and 1, which are on the sum of register 2, was in force at each sample since the reset: 0 and 2 are 2
+  pub shared : OnSumOf twoMakers 2 firstTwo
+  pub once : Each (ExactlyOne twoMakers firstTwo) (since twoMakers events)
 
 -- Neither "for each feeding input" nor "in each stretch" can be left out
 

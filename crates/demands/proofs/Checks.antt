@@ -1,4 +1,4 @@
--- That the account's definitions say what document 01 says: stretches may be counted at either end, and the scale is exact.
+-- That the account's definitions say what document 01 says: stretches may be counted at either end, and the scale is exact. And the third demand in one.
 use mathlib.Core.Path.{_≡_, refl, sym, ap, _∙_}
 use mathlib.Core.Bool.{Bool, true, false, not, _&&_}
 use mathlib.Core.List.{List, [], _∷_, _++_}
@@ -11,8 +11,9 @@ use Rattle.laws.specs.Masks.{bit, bitAt}
 use Rattle.image.specs.declared.Config.{Config}
 use Rattle.recorder.specs.Filter.{inputAt}
 use Rattle.demands.specs.Account.{Event, took, cleared, Sample, whole, since, running, stretchesOf, feeding, productOf}
-use Rattle.demands.specs.Demand3.{endsOf, oldestOn, StretchesThatCount, ScaleIsExact}
-use Rattle.demands.proofs.Demand3.{feeds-fitted}
+use Rattle.demands.specs.Demand3.{endsOf, oldestOn, StretchesThatCount, ScaleIsExact, Demand3}
+use Rattle.demands.proofs.Demand3.{feeds-fitted, open-amount, plain-bills, amounts-add-up}
+use Rattle.demands.proofs.Starts.{start-is-fresh}
 
 ends-step : (t w r : Bool) (n m : ℕ) → n + bit (t && r) ≡ m → bit (t && not w) + n + bit (w && t) ≡ m + bit (t && not r)
 ends-step true true true n m h = omega arith
@@ -71,3 +72,15 @@ exact-times named d (suc n) m i l e pos =
 pub scale-is-exact : ScaleIsExact
 scale-is-exact c a j used i l e =
     simp mul-one at (exact-times (bitAt (feeding c j)) (λ k. inputAt (c .inputs) k .denominator) 16 1 i l e (feeds-fitted c a j used i l e .divides))
+
+-- all of it
+pub demand-3 : Demand3
+demand-3 =
+    record {
+      start-is-fresh = start-is-fresh;
+      open-amount = open-amount;
+      plain-bills = plain-bills;
+      amounts-add-up = amounts-add-up;
+      stretches-that-count = stretches-that-count;
+      scale-is-exact = scale-is-exact;
+    }

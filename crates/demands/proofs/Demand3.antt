@@ -60,7 +60,7 @@ unfolding feeding
 same-feeding c j k e = rw e
 
 -- a register without a rule is always booked
-always-books : (c : Config) (j : ℕ) → WithoutRule c j → (second : ℕ) → booksAt c j second ≡ true
+pub always-books : (c : Config) (j : ℕ) → WithoutRule c j → (second : ℕ) → booksAt c j second ≡ true
 unfolding booksAt
 always-books c j none second = rw none
 

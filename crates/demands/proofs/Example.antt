@@ -1,7 +1,9 @@
 -- The example's numbers, computed.
 use mathlib.Core.Path.{refl}
 use Prim.Native.Nat.{ℕ, zero, suc, _<_}
+use native.Mathlib.Nat.{not-suc-le-zero, le-of-suc-le-suc}
 use native.Mathlib.Omega.{arith}
+use borrow.Author.Tests.{ltb-true}
 use lib.ListN.{replicate}
 use Rattle.laws.specs.First.{first}
 use Rattle.laws.specs.Any.{any}
@@ -30,7 +32,8 @@ use Rattle.recorder.specs.Calls.{freshState}
 use Rattle.recorder.specs.History.{afterAll}
 use Rattle.recorder.specs.Laws.{Good}
 use Rattle.demands.specs.Account.{booksAt, feeding, productOf}
-use Rattle.demands.specs.Example.{twoMakers, Numbers, Needed}
+use Rattle.demands.specs.Demand3.{OnSumOf}
+use Rattle.demands.specs.Example.{twoMakers, firstTwo, Numbers, Needed}
 
 -- the check finds nothing
 is-good : Good twoMakers
@@ -49,6 +52,12 @@ runs-bytes (suc (suc (suc i))) l = unused 13 i
     unused (suc n) zero = omega arith
     unused (suc n) (suc i) = unused n i
 
+-- registers 0 and 1 are on the sum of register 2
+first-two : OnSumOf twoMakers 2 firstTwo
+first-two zero l e = ((l, omega arith), refl)
+first-two (suc zero) l e = ((l, omega arith), refl)
+first-two (suc (suc j)) l e = absurd (not-suc-le-zero (le-of-suc-le-suc (le-of-suc-le-suc (ltb-true (suc (suc j)) 2 e))))
+
 pub numbers : Numbers
 unfolding first any total span maskOf bitAt table monthLength yearLength yearDay momentOf windowActive dailyActive fitsAt firstHoliday columnOn referenceAt weeklyActive inSeason seasonActive applies inForce forceMap forceOf accepted filtered filteredAt acceptedAt steppedOf unitsOf remainderOf credited creditIf unitsIf creditedAt unitsAt creditsOf namedPart sumOf sumAt sumsOf registerUnits dueOf fills billed dueAt fillsAt billedAt bookedOf level0At level0 termAt level2 inputValue sumValue functionValue slotValue slotValueAt slotValues multiple cleared clearedAt clearedLines closedAs tickOf bookingOf activeAt activeLines countedOf sampleOf setTo setOf closedBill closedBillAt resetOf readingOf freshState afterAll booksAt feeding productOf
 numbers =
@@ -62,6 +71,7 @@ numbers =
       energy = refl;
       stretches = refl;
       total = refl;
+      shared = first-two;
       once = (refl, (refl, (refl, (refl, (refl, (refl, (refl, (refl, (refl, (refl, (refl, (refl, (refl, (refl, (refl, (refl, (refl, (refl, (refl, tt)))))))))))))))))));
     }
 

@@ -1,15 +1,16 @@
 -- What each call does to runs, remainders, open amounts and clock of the real recorder, from its definitions.
 use mathlib.Core.Path.{_≡_, refl, ap, _∙_}
-use mathlib.Core.Bool.{Bool, true, false, _&&_, _||_, not}
+use mathlib.Core.Bool.{Bool, true, false, _&&_, _||_, not, and-false}
 use mathlib.Core.List.{List}
-use Prim.Native.Nat.{ℕ, _+_, _/_, _<_}
+use Prim.Native.Nat.{ℕ, _+_, _/_, _<_, _≤_}
 use native.Mathlib.Omega.{arith}
 use lib.Dec.{ltb, leb, eqb}
 use lib.IntN.{ℤ}
 use lib.ListN.{getD, getD-replicate}
-use borrow.Author.Tests.{lt-ltb, leb-true, leb-false, eq-eqb, ne-eqb}
-use Rattle.laws.specs.If.{if_then_else_, if-cases}
-use Rattle.laws.specs.Any.{any-not}
+use borrow.Author.Tests.{lt-ltb, le-ltb, ltb-true, leb-true, leb-false, eq-eqb, ne-eqb}
+use Rattle.laws.specs.If.{if_then_else_, if-cases, if-same}
+use Rattle.laws.specs.Tests.{by-test}
+use Rattle.laws.specs.Any.{any-at, any-none, any-not}
 use Rattle.laws.specs.Total.{total-cong}
 use Rattle.laws.specs.Masks.{bitAt, bit-at}
 use Rattle.laws.specs.Tables.{table, table-at}
@@ -21,7 +22,7 @@ use Rattle.image.specs.declared.Config.{Config}
 use Rattle.image.specs.declared.Input.{Input}
 use Rattle.recorder.specs.Filter.{inputAt, lineAt, nextRun, accepted, filtered, filteredAt, acceptedAt, steppedOf, oneMore, ends, fitting}
 use Rattle.recorder.specs.Units.{unitsOf, remainderOf, credited, creditIf, unitsIf, creditedAt, unitsAt, creditsOf}
-use Rattle.recorder.specs.Bills.{registerAt, billAt, unitAt, partOf, namedPart, sumOf, sumAt, sumsOf, registerUnits, dueOf, billed, dueAt, fillsAt, billedAt, bookedOf}
+use Rattle.recorder.specs.Bills.{feeds, fills, registerAt, billAt, unitAt, partOf, namedPart, sumOf, sumAt, sumsOf, registerUnits, dueOf, billed, dueAt, fillsAt, billedAt, bookedOf}
 use Rattle.recorder.specs.Periods.{multiple, cleared, clearedAt, clearedLines, tickOf}
 use Rattle.recorder.specs.Samples.{bookingOf, activeAt, activeLines, bookingOn, putIn, countedOf, clockEnd, sampleOf}
 use Rattle.recorder.specs.Clock.{setTo, setDated, setOf, closedBill, closedBillAt, resetOf}
@@ -66,6 +67,10 @@ rejectsAt c bits s i =
 abbrev pub broughtAt : Config → ℕ → State → ℕ → ℕ
 broughtAt c bits s i = if bringsAt c bits s i then unitsOf (inputAt (c .inputs) i) (remAt s i) else 0
 
+-- the units that a sample books to register j
+abbrev pub getsAt : Config → ℕ → State → ℕ → ℕ
+getsAt c bits s j = if booksAt c j (s .clock) then sumOf (feeding c j) (broughtAt c bits s) else 0
+
 -- the same runs, rejected counts and remainders
 pub record SameLines (s s′ : State) : Type 0 where
   pub runs : (i : ℕ) → i < 16 → runAt s′ i ≡ runAt s i
@@ -83,7 +88,7 @@ pub record Booked (c : Config) (bits : ℕ) (s s′ : State) : Type 0 where
   pub runs : (i : ℕ) → i < 16 → runAt s′ i ≡ nextRun (runAt s i) (activeAt (c .inputs) bits i)
   pub rejects : (i : ℕ) → i < 16 → rejectedAt s′ i ≡ oneMore (rejectedAt s i) (rejectsAt c bits s i)
   pub remainders : (i : ℕ) → i < 16 → remAt s′ i ≡ (if bringsAt c bits s i then remainderOf (inputAt (c .inputs) i) (remAt s i) else remAt s i)
-  pub amounts : (j : ℕ) → InUse c j → amountAt s′ j ≡ amountAt s j + (if booksAt c j (s .clock) then sumOf (feeding c j) (broughtAt c bits s) else 0)
+  pub amounts : (j : ℕ) → InUse c j → amountAt s′ j ≡ amountAt s j + getsAt c bits s j
 
 -- a billing reset: each open amount is noted as closed and set to 0; clock and lines go on
 pub record Closed (c : Config) (s s′ : State) : Type 0 where
@@ -158,14 +163,45 @@ module _ (c : Config) (s : State) (bits : ℕ) where
       rw (lt-ltb k 8 (u .1), table-at 8 (sumAt (c .sums) units) k 0 (u .1))
       (total-cong 16 _ _ (λ i l. ap (partOf (bitAt (getD (c .sums) k 0) i)) (unit-after i l)))
 
+  -- what is due to register j
+  abbrev due : ℕ → ℕ
+  due j = dueAt (c .registers) (forceMapAt (c .program) (s .clock)) (sumsOf (c .sums) units) j
+
+  due-is : (j : ℕ) → InUse c j → due j ≡ getsAt c bits s j
+  unfolding dueAt dueOf booksAt
+  due-is j u = rw (units-of j u)
+
+  -- nothing, if it is not in use
+  due-none : (j : ℕ) → ltb (registerAt (c .registers) j .sum) 8 ≡ false → due j ≡ 0
+  unfolding dueAt dueOf registerUnits
+  due-none j e = rw e (if-same (feeds (registerAt (c .registers) j) (forceMapAt (c .program) (s .clock))) 0)
+
   -- bill j after a sample that is not refused
-  bill-after : (j : ℕ) → InUse c j → bookingOn c s bits .full ≡ false
-      → billAt (bookingOn c s bits .bills) j .amount ≡ amountAt s j + (if booksAt c j (s .clock) then sumOf (feeding c j) (broughtAt c bits s) else 0)
-  unfolding bookingOf bookedOf billedAt fillsAt billed dueAt dueOf booksAt
+  bill-after : (j : ℕ) → InUse c j → bookingOn c s bits .full ≡ false → billAt (bookingOn c s bits .bills) j .amount ≡ amountAt s j + getsAt c bits s j
+  unfolding bookingOf bookedOf billedAt fillsAt billed
   bill-after j u e =
       let map = forceMapAt (c .program) (s .clock) in
       let sums = sumsOf (c .sums) units in
-      rw (table-at 16 (billedAt (c .registers) (s .bills) map sums) j _ (u .0), any-not 16 (fillsAt (c .registers) (s .bills) map sums) e j (u .0), units-of j u)
+      rw (table-at 16 (billedAt (c .registers) (s .bills) map sums) j _ (u .0), any-not 16 (fillsAt (c .registers) (s .bills) map sums) e j (u .0), due-is j u)
+
+  -- a sample that takes no register in use past 999,999,999 fills none
+  pub not-full : ((j : ℕ) → InUse c j → amountAt s j + getsAt c bits s j ≤ 999_999_999) → bookingOn c s bits .full ≡ false
+  unfolding bookingOf bookedOf fillsAt fills
+  not-full within =
+      any-none 16 (fillsAt (c .registers) (s .bills) (forceMapAt (c .program) (s .clock)) (sumsOf (c .sums) units))
+      (λ j l.
+      by-test (ltb (registerAt (c .registers) j .sum) 8)
+      (λ e.
+      let u : InUse c j = (l, ltb-true _ _ e) in
+      rw (due-is j u, le-ltb 999_999_999 (amountAt s j + getsAt c bits s j) (within j u)) (and-false (ltb 0 (getsAt c bits s j))))
+      (λ e. rw (due-none j e)))
+
+  -- one that does is full
+  pub is-full : (j : ℕ) → InUse c j → amountAt s j ≤ 999_999_999 → 999_999_999 < amountAt s j + getsAt c bits s j → bookingOn c s bits .full ≡ true
+  unfolding bookingOf bookedOf fillsAt fills
+  is-full j u within past =
+      any-at 16 (fillsAt (c .registers) (s .bills) (forceMapAt (c .program) (s .clock)) (sumsOf (c .sums) units)) j (u .0)
+      (rw (due-is j u, lt-ltb 0 (getsAt c bits s j) (omega arith), lt-ltb 999_999_999 (amountAt s j + getsAt c bits s j) past))
 
 -- what counting the sample leaves: the lines keep run and remainder also where a period closes, and the clock is one sample on
 pub record Counted (s s′ : State) : Type 0 where

@@ -12,3 +12,4 @@ pub mod Table
 pub mod Tightness
 pub mod Example
 pub mod Checks
+pub mod Full

@@ -31,7 +31,7 @@ abbrev pub reached : Config → ℕ → List Call → Recorder
 reached c time calls = afterAll (freshStart c time) calls
 
 -- a sample, with the configuration that the start gave
-sample-at : (c : Config) (time : ℕ) (calls : List Call) (bits : ℕ)
+pub sample-at : (c : Config) (time : ℕ) (calls : List Call) (bits : ℕ)
     → SampleStep (takesSample c time calls bits) c bits (reached c time calls .state) (reached c time (sample bits ∷ calls) .state)
 unfolding afterAll
 sample-at c time calls bits =
@@ -40,7 +40,7 @@ sample-at c time calls bits =
     (config-stays c time calls) (sample-step (r .config) (r .state) bits)
 
 -- a reset, with the same
-reset-at : (c : Config) (time : ℕ) (calls : List Call) → Closed c (reached c time calls .state) (reached c time (reset ∷ calls) .state)
+pub reset-at : (c : Config) (time : ℕ) (calls : List Call) → Closed c (reached c time calls .state) (reached c time (reset ∷ calls) .state)
 unfolding afterAll
 reset-at c time calls =
     let r = reached c time calls in

@@ -1,5 +1,6 @@
--- What a history of calls says by itself, in the words of document 01's "Samples, impulses, units". It is worked out from the calls and from which of them were accepted, that is answered with
--- no refusal: never from the recorder's clock, runs, remainders or amounts. All lists are newest first: `call ∷ earlier` is the call after the earlier ones.
+-- What a history of calls says by itself, in the words of document 01's "Samples, impulses, units". It is worked out from the calls and from which of them were
+-- accepted, that is answered with no refusal: never from the recorder's clock, runs, remainders or amounts. All lists are newest first: `call ∷ earlier` is the call
+-- after the earlier ones.
 use mathlib.Core.Bool.{Bool, true, false, not, _&&_}
 use mathlib.Core.List.{List, [], _∷_}
 use Prim.Native.Nat.{ℕ, zero, suc, _+_, _*_, _/_}

@@ -1,4 +1,5 @@
--- The owner's third demand: "Take any sequence of samples, clock sets, readings and billing resets from a fresh start." Each type below is a theorem, proved in proofs/Demand3.antt.
+-- The owner's third demand: "Take any sequence of samples, clock sets, readings and billing resets from a fresh start." Each type below is a theorem; Demand3 names
+-- them all, and proofs/Checks.antt has the proof.
 use mathlib.Core.Path.{_≡_}
 use mathlib.Core.Bool.{Bool, true, false, not, _&&_}
 use mathlib.Core.List.{List, [], _∷_, _++_}
@@ -22,7 +23,7 @@ pub record Accepted (c : Config) : Type 0 where
   pub good : Good c
   pub bytes : (i : ℕ) → i < 16 → inputAt (c .inputs) i .longest < 256
 
--- a start call that is answered without a refusal gives such a configuration and the fresh start of a history: so nothing more is asked below than what each start in the field has
+-- a start call that is not refused gives such a configuration and the fresh start of a history: so no more is asked below than each start in the field has
 abbrev pub StartIsFresh : Type 0
 StartIsFresh =
     (image : List ℕ) → Bytes image → (time : ℕ) → startReply image time .answer ≡ given tt
@@ -36,14 +37,14 @@ InUse c j = (j < 16) × (registerAt (c .registers) j .sum < 8)
 abbrev pub WithoutRule : Config → ℕ → Type 0
 WithoutRule c j = registerAt (c .registers) j .rule ≡ 255
 
--- amount and energy "are compared as whole numbers, each multiplied by" the scale: they differ by less than one unit for each of `pieces`; with no piece both are 0
+-- amount and energy "are compared as whole numbers, each multiplied by" the scale: they differ by less than one unit for each piece; with no piece both are 0
 pub record Near (amount energy scale pieces : ℕ) : Type 0 where
   pub not-above : 0 < pieces → amount * scale < energy + pieces * scale
   pub not-below : 0 < pieces → energy < amount * scale + pieces * scale
   pub none : pieces ≡ 0 → (amount ≡ 0) × (energy ≡ 0)
 
--- "An open bill amount with a tariff differs from the exact energy of the impulses booked while its tariff was in force, since the last reset, by less than one unit for each feeding input in
--- each unbroken stretch of that tariff; with no stretch or no input it is zero." It holds without a tariff too: then every sample is booked.
+-- "An open bill amount with a tariff differs from the exact energy of the impulses booked while its tariff was in force, since the last reset, by less than one unit
+-- for each feeding input in each unbroken stretch of that tariff; with no stretch or no input it is zero." It holds without a tariff too: then every sample is booked.
 abbrev pub OpenAmount : Type 0
 OpenAmount =
     (c : Config) → Accepted c → (time : ℕ) (calls : List Call) (j : ℕ) → InUse c j →
@@ -67,7 +68,8 @@ OnSumOf c k chosen =
 abbrev pub ExactlyOne : Config → (ℕ → Bool) → Sample → Type 0
 ExactlyOne c chosen e = total 16 (λ j. bit (chosen j && booksAt c j (e .second))) ≡ 1
 
--- "Where amounts on one sum have different tariffs and exactly one of these was in force at every sample since the reset, their open amounts add up to that sum's open amount without a tariff."
+-- "Where amounts on one sum have different tariffs and exactly one of these was in force at every sample since the reset, their open amounts add up to that sum's
+-- open amount without a tariff."
 abbrev pub AmountsAddUp : Type 0
 AmountsAddUp =
     (c : Config) → Accepted c → (time : ℕ) (calls : List Call) (k : ℕ) → InUse c k → WithoutRule c k →
@@ -86,7 +88,8 @@ abbrev pub oldestOn : (ℕ → Bool) → Bool → List Sample → Bool
 oldestOn on newer [] = newer
 oldestOn on newer (e ∷ earlier) = oldestOn on (on (e .second)) earlier
 
--- "It counts for the open amount if one of its samples came after the last reset": of all stretches of the history those counted over `since` count, and all others ended before the reset
+-- "It counts for the open amount if one of its samples came after the last reset": of all stretches of the history those over `since` count, and all others ended
+-- before the reset
 abbrev pub StretchesThatCount : Type 0
 StretchesThatCount =
     (c : Config) (on : ℕ → Bool) (events : List Event)
@@ -98,3 +101,12 @@ abbrev pub ScaleIsExact : Type 0
 ScaleIsExact =
     (c : Config) → Accepted c → (j : ℕ) → InUse c j → (i : ℕ) → i < 16 → bitAt (feeding c j) i ≡ true
     → scaleOf c (feeding c j) / inputAt (c .inputs) i .denominator * inputAt (c .inputs) i .denominator ≡ scaleOf c (feeding c j)
+
+-- The third demand, in one
+pub record Demand3 : Type 0 where
+  pub start-is-fresh : StartIsFresh
+  pub open-amount : OpenAmount
+  pub plain-bills : PlainBills
+  pub amounts-add-up : AmountsAddUp
+  pub stretches-that-count : StretchesThatCount
+  pub scale-is-exact : ScaleIsExact

@@ -1,7 +1,8 @@
 -- A history worked out: two makers share a recorder, each with a day amount, a night amount and one without a tariff. All numbers below are computed in proofs/Example.antt.
 use mathlib.Core.Path.{_≡_}
+use mathlib.Core.Bool.{Bool}
 use mathlib.Core.List.{List, [], _∷_, _++_, reverse}
-use Prim.Native.Nat.{ℕ}
+use Prim.Native.Nat.{ℕ, zero, suc, _<_}
 use lib.Dec.{ltb}
 use lib.IntN.{pos}
 use lib.ListN.{replicate}
@@ -9,9 +10,10 @@ use Rattle.laws.specs.Each.{Each}
 use Rattle.laws.specs.Tables.{table}
 use Rattle.tariff.specs.declared.Program.{Program}
 use Rattle.image.specs.declared.Config.{Config}
-use Rattle.recorder.specs.History.{Call, sample, set, reading, reset}
-use Rattle.demands.specs.Account.{Event, took, cleared, eventsOf, closedOf, openOf, whole, since, booksAt, always, stretchesOf, feeding, countOf, scaleOf, energyOf, wholeUnitsOf}
-use Rattle.demands.specs.Demand3.{Accepted, ExactlyOne}
+use Rattle.recorder.specs.Calls.{sampleReply}
+use Rattle.recorder.specs.History.{Call, sample, set, reading, reset, afterAll, freshStart}
+use Rattle.demands.specs.Account.{Event, took, cleared, eventsOf, closedOf, openOf, whole, since, booksAt, always, impulsesOf, stretchesOf, feeding, countOf, scaleOf, energyOf, wholeUnitsOf}
+use Rattle.demands.specs.Demand3.{Accepted, OnSumOf, ExactlyOne}
 
 -- tariff rule 0 is the day, 06:00 to 22:00, and rule 1 the night, every day
 abbrev pub dayAndNight : Program
@@ -27,8 +29,8 @@ dayAndNight =
       rules = record { season = 255; week = 0 } ∷ record { season = 255; week = 1 } ∷ replicate 14 (record { season = 255; week = 255 });
     }
 
--- one maker has inputs 0 (S1a, runs 1 to 8, 3/10) and 1 (S1r, runs 2 to 8, 7/4) on sum 0, the other input 2 (S1a, runs 1 to 255, 5/2) on sum 1; bill registers 0, 1, 2 are the day, the night
--- and no tariff on sum 0; 3, 4, 5 the same on sum 1; serial meter 0 is fitted
+-- one maker has inputs 0 (S1a, runs 1 to 8, 3/10) and 1 (S1r, runs 2 to 8, 7/4) on sum 0, the other input 2 (S1a, runs 1 to 255, 5/2) on sum 1; bill registers 0, 1
+-- and 2 are the day, the night and no tariff on sum 0; 3, 4 and 5 the same on sum 1; serial meter 0 is fitted
 abbrev pub twoMakers : Config
 twoMakers =
     record {
@@ -90,6 +92,10 @@ events =
 abbrev six : (ℕ → ℕ) → List ℕ
 six f = table 6 f
 
+-- registers 0 and 1
+abbrev pub firstTwo : ℕ → Bool
+firstTwo j = ltb j 2
+
 -- what the theorems speak of, register by register: 0 and 3 by day, 1 and 4 by night, 2 and 5 without a tariff
 pub record Numbers : Type 0 where
   -- the configuration is one that the image check accepts, and the events are those above
@@ -105,8 +111,9 @@ pub record Numbers : Type 0 where
   pub stretches : six (λ j. stretchesOf (booksAt twoMakers j) (since twoMakers events)) ≡ 1 ∷ 2 ∷ 1 ∷ 1 ∷ 2 ∷ 1 ∷ []
   -- the exact energy of the whole history, rounded down once for each feeding input: closed and open of registers 2 and 5 together
   pub total : six (λ j. wholeUnitsOf twoMakers always (feeding twoMakers j) (whole twoMakers events)) ≡ 4 ∷ 4 ∷ 4 ∷ 15 ∷ 15 ∷ 15 ∷ []
-  -- exactly one of the rules of registers 0 and 1 was in force at each sample since the reset: 0 and 2 are 2
-  pub once : Each (ExactlyOne twoMakers (λ j. ltb j 2)) (since twoMakers events)
+  -- exactly one of the rules of registers 0 and 1, which are on the sum of register 2, was in force at each sample since the reset: 0 and 2 are 2
+  pub shared : OnSumOf twoMakers 2 firstTwo
+  pub once : Each (ExactlyOne twoMakers firstTwo) (since twoMakers events)
 
 -- Neither "for each feeding input" nor "in each stretch" can be left out
 
@@ -128,3 +135,37 @@ pub record Needed : Type 0 where
   pub many : openOf twoMakers start 4 dayAndNightThrice ≡ 9
   pub less : energyOf twoMakers (booksAt twoMakers 4) (feeding twoMakers 4) (since twoMakers (eventsOf twoMakers start dayAndNightThrice)) ≡ 15
   pub three-stretches : stretchesOf (booksAt twoMakers 4) (since twoMakers (eventsOf twoMakers start dayAndNightThrice)) ≡ 3
+
+-- FULL inside a history
+
+-- sixteen inputs on sum 0, each with 10,000 units for an impulse of one sample, and bill register 0 on that sum without a tariff
+abbrev pub fullMaker : Config
+fullMaker =
+    record {
+      period = 15;
+      inputs = replicate 16 (record { kind = 1; shortest = 1; longest = 1; numerator = 10_000; denominator = 1 });
+      sums = 65_535 ∷ replicate 7 0;
+      coefficients = replicate 32 (pos 0);
+      slots = replicate 16 (record { level = 255; index = 0 });
+      limits = replicate 32 0;
+      program = dayAndNight;
+      registers = record { sum = 0; rule = 255 } ∷ replicate 15 (record { sum = 255; rule = 255 });
+    }
+
+-- n impulses of all inputs together
+unfoldable pub pulses : ℕ → List Call
+pulses zero = []
+pulses (suc n) = sample 0 ∷ sample 65_535 ∷ pulses n
+
+-- 6,249 of them, and all lines closed for the next
+abbrev pub nearlyFull : List Call
+nearlyFull = sample 65_535 ∷ pulses 6_249
+
+-- the sample that would end the 6,250th is refused, counts for nothing in the account, and is accepted after a reset: the runs went on
+pub record Filled : Type 0 where
+  pub accepted : Accepted fullMaker
+  pub opened : openOf fullMaker 0 0 nearlyFull ≡ 999_840_000
+  pub refused : sampleReply (afterAll (freshStart fullMaker 0) nearlyFull) 0 .number ≡ 6
+  pub impulses : (i : ℕ) → i < 16 → impulsesOf always i (whole fullMaker (eventsOf fullMaker 0 (sample 0 ∷ nearlyFull))) ≡ 6_249
+  pub closed : closedOf fullMaker 0 0 (sample 0 ∷ reset ∷ sample 0 ∷ nearlyFull) ≡ 999_840_000
+  pub anew : openOf fullMaker 0 0 (sample 0 ∷ reset ∷ sample 0 ∷ nearlyFull) ≡ 160_000

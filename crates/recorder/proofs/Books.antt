@@ -18,20 +18,15 @@ use Rattle.tariff.specs.Rules.{forceMapAt}
 use Rattle.image.specs.declared.Config.{Config}
 use Rattle.image.specs.declared.Input.{Input}
 use Rattle.image.specs.declared.Register.{Register}
-use Rattle.recorder.specs.Filter.{inputAt, lineAt, steppedOf, filteredAt}
-use Rattle.recorder.specs.Units.{creditIf, unitsIf, creditedAt, unitsAt, creditsOf}
-use Rattle.recorder.specs.Bills.{registerAt, billAt, unitAt, partOf, namedPart, sumOf, sumAt, sumsOf, registerUnits, feeds, dueOf, fills, billed, dueAt, fillsAt, billedAt, bookedOf, wantsAt, wantsMap}
+use Rattle.counting.specs.Filter.{inputAt, lineAt, steppedOf, filteredAt}
+use Rattle.counting.specs.Units.{creditIf, unitsIf, creditedAt, unitsAt, creditsOf}
+use Rattle.counting.specs.Bills.{registerAt, billAt, unitAt, partOf, namedPart, sumOf, sumAt, sumsOf, registerUnits, feeds, dueOf, fills, billed, dueAt, fillsAt, billedAt, bookedOf, wantsAt, wantsMap}
 use Rattle.recorder.specs.Samples.{bookingOf}
-use Rattle.recorder.specs.declared.Line.{Line}
-use Rattle.recorder.specs.declared.filter.Stepped.{Stepped}
-use Rattle.recorder.specs.declared.units.Credits.{Credits}
-use Rattle.recorder.specs.declared.bills.Booked.{Booked}
-use Rattle.recorder.specs.declared.Bill.{Bill}
-
--- units that do not fill a register keep it within 999,999,999
-pub not-full : (bill : Bill) (due : ℕ) → fills bill due ≡ false → 0 < due → bill .amount + due ≤ 999_999_999
-unfolding fills
-not-full bill due e h = ltb-false 999_999_999 (bill .amount + due) (rw (lt-ltb 0 due h) at e)
+use Rattle.counting.specs.declared.Line.{Line}
+use Rattle.counting.specs.declared.filter.Stepped.{Stepped}
+use Rattle.counting.specs.declared.units.Credits.{Credits}
+use Rattle.counting.specs.declared.bills.Booked.{Booked}
+use Rattle.counting.specs.declared.Bill.{Bill}
 
 -- a register that gets nothing is not filled
 none-fills : (bill : Bill) → fills bill 0 ≡ false

@@ -19,14 +19,14 @@ use Rattle.laws.specs.BitTests.{either, bit-and, bit-or, bit-xor}
 use Rattle.laws.specs.Tables.{table, table-at, table-cong, table-self, length-table}
 use Rattle.image.specs.declared.Config.{Config}
 use Rattle.image.specs.declared.Input.{Input}
-use Rattle.recorder.specs.Filter.{inputAt, lineAt, active, nextRun, ends, fitting, oneMore, accepted, filtered, filteredAt, acceptedAt, steppedOf, kindAt, kindMask, runningAt, runningLines}
-use Rattle.recorder.specs.Units.{credited, creditIf, creditedAt, creditsOf}
-use Rattle.recorder.specs.Bills.{bookedOf}
+use Rattle.counting.specs.Filter.{inputAt, lineAt, active, nextRun, ends, fitting, oneMore, accepted, filtered, filteredAt, acceptedAt, steppedOf, kindAt, kindMask, runningAt, runningLines}
+use Rattle.counting.specs.Units.{credited, creditIf, creditedAt, creditsOf}
+use Rattle.counting.specs.Bills.{bookedOf}
 use Rattle.recorder.specs.Periods.{multiple, cleared, clearedAt, clearedLines, tickOf}
 use Rattle.recorder.specs.Samples.{bookingOf, activeAt, activeLines, bookingOn, putIn, countedOf, clockEnd, sampleOf, Run, onward, samplesOf}
 use Rattle.recorder.specs.Calls.{replyTo}
-use Rattle.recorder.specs.declared.Line.{Line}
-use Rattle.recorder.specs.declared.Bill.{Bill}
+use Rattle.counting.specs.declared.Line.{Line}
+use Rattle.counting.specs.declared.Bill.{Bill}
 use Rattle.recorder.specs.declared.State.{State}
 use Rattle.recorder.specs.declared.booking.Booking.{Booking}
 use Rattle.recorder.proofs.Books.{no-impulse}

@@ -11,9 +11,9 @@ use Rattle.calendar.specs.Moments.{momentOf}
 use Rattle.calendar.specs.declared.Moment.{Moment}
 use Rattle.image.specs.declared.Config.{Config}
 use Rattle.image.specs.declared.Register.{Register}
-use Rattle.recorder.specs.Bills.{registerAt, billAt}
+use Rattle.counting.specs.Bills.{registerAt, billAt}
 use Rattle.recorder.specs.Periods.{clearedLines, closedAs}
-use Rattle.recorder.specs.declared.Bill.{Bill}
+use Rattle.counting.specs.declared.Bill.{Bill}
 use Rattle.recorder.specs.declared.State.{State}
 
 -- the state set to a time: the period closes at the old time as short, 1; second and period start anew

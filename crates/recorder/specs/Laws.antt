@@ -7,12 +7,12 @@ use Rattle.laws.specs.Each.{Each}
 use Rattle.image.specs.Check.{sections, Holds}
 use Rattle.image.specs.declared.Config.{Config}
 use Rattle.image.specs.declared.Input.{Input}
-use Rattle.recorder.specs.Filter.{inputAt, lineAt}
-use Rattle.recorder.specs.Units.{unitsOf, heldSum}
-use Rattle.recorder.specs.Bills.{billAt}
+use Rattle.counting.specs.Filter.{inputAt, lineAt}
+use Rattle.counting.specs.Units.{unitsOf, heldSum}
+use Rattle.counting.specs.Bills.{billAt}
 use Rattle.recorder.specs.History.{Call, afterAll, freshStart}
-use Rattle.recorder.specs.declared.Line.{Line}
-use Rattle.recorder.specs.declared.Bill.{Bill}
+use Rattle.counting.specs.declared.Line.{Line}
+use Rattle.counting.specs.declared.Bill.{Bill}
 use Rattle.recorder.specs.declared.State.{State}
 
 -- sixteen lines, each with a run of at most 256 and a remainder below its denominator

@@ -7,9 +7,9 @@ use lib.Dec.{eqb}
 use Rattle.laws.specs.If.{if_then_else_}
 use Rattle.laws.specs.Tables.{table}
 use Rattle.image.specs.declared.Config.{Config}
-use Rattle.recorder.specs.Filter.{lineAt}
-use Rattle.recorder.specs.Levels.{level0, slotValues}
-use Rattle.recorder.specs.declared.Line.{Line}
+use Rattle.counting.specs.Filter.{lineAt}
+use Rattle.counting.specs.Levels.{level0, slotValues}
+use Rattle.counting.specs.declared.Line.{Line}
 use Rattle.recorder.specs.declared.Period.{Period}
 use Rattle.recorder.specs.declared.State.{State}
 

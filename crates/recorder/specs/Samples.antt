@@ -9,16 +9,16 @@ use Rattle.laws.specs.Masks.{maskOf, bitAt}
 use Rattle.tariff.specs.Rules.{forceMapAt}
 use Rattle.image.specs.declared.Config.{Config}
 use Rattle.image.specs.declared.Input.{Input}
-use Rattle.recorder.specs.Filter.{inputAt, active, steppedOf}
-use Rattle.recorder.specs.Units.{creditsOf}
-use Rattle.recorder.specs.Bills.{sumsOf, bookedOf}
+use Rattle.counting.specs.Filter.{inputAt, active, steppedOf}
+use Rattle.counting.specs.Units.{creditsOf}
+use Rattle.counting.specs.Bills.{sumsOf, bookedOf}
 use Rattle.recorder.specs.Periods.{tickOf}
 use Rattle.recorder.specs.declared.State.{State}
 use Rattle.recorder.specs.declared.SampleAnswer.{SampleAnswer}
 use Rattle.recorder.specs.declared.SampleAnswer.the-variants.{Taken, ClockEnd, Full}
 use Rattle.recorder.specs.declared.samples.Taking.{Taking}
-use Rattle.recorder.specs.declared.Line.{Line}
-use Rattle.recorder.specs.declared.Bill.{Bill}
+use Rattle.counting.specs.declared.Line.{Line}
+use Rattle.counting.specs.declared.Bill.{Bill}
 use Rattle.recorder.specs.declared.booking.Booking.{Booking}
 
 -- what a sample books at a clock, given the mask of active lines: filter, units, sums, tariff at the present second, bills

@@ -1,12 +1,12 @@
 // One sample's booking: the filter, the units, the sums and the bills, in this order.
 use crate::Bill;
 use crate::Line;
-use crate::bills::book_bills;
-use crate::bills::map_if;
-use crate::bills::sums_units;
-use crate::bills::wants_map;
-use crate::filter::step_lines;
-use crate::units::credit_lines;
+use counting::bills::book_bills;
+use counting::bills::map_if;
+use counting::bills::sums_units;
+use counting::bills::wants_map;
+use counting::filter::step_lines;
+use counting::units::credit_lines;
 use image::Config;
 ghost use mathlib.Core.Path.{_≡_};
 ghost use Rattle.recorder.specs.Samples.{bookingOf};

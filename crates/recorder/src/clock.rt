@@ -2,7 +2,7 @@
 use crate::Line;
 use crate::Period;
 use crate::State;
-use crate::levels::level9;
+use counting::levels::level9;
 use image::Config;
 ghost use mathlib.Core.Path.{_≡_};
 ghost use Prim.Native.Nat.{_<_};

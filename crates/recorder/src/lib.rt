@@ -1,13 +1,9 @@
 // The recorder: what is fixed, what moves, and the calls that move it.
-mod bills;
 mod booking;
 mod calls;
 mod clock;
-mod filter;
-mod levels;
 mod meters;
 mod samples;
-mod units;
 
 use calendar::Dated;
 pub use calls::ReadingAnswer;
@@ -15,6 +11,8 @@ pub use calls::SetAnswer;
 use calls::read;
 use calls::reset;
 use calls::set;
+pub use counting::Bill;
+pub use counting::Line;
 use image::Config;
 use image::ImageAnswer;
 pub use meters::Age;
@@ -25,22 +23,6 @@ use samples::take;
 ghost use mathlib.Core.Path.{_≡_};
 ghost use Rattle.calendar.specs.Moments.{momentOf};
 ghost use Rattle.recorder.specs.Calls.{freshState, blankRecorder, startSaid, refusedStart, startDated, startReply, sampledSaid, sampleReply, runSaid, samplesReply, clockSetSaid, setReply, meterReadSaid, readingReply, resetReply};
-
-// One line: its run of active samples, the impulses rejected, the remainder of its input, its units of the running period (level 0).
-pub struct Line {
-    pub run: u32,
-    pub rejected: u16,
-    pub remainder: u16,
-    pub units: u32,
-}
-
-// One bill register: the open amount, and the last closed one with its time.
-pub struct Bill {
-    pub amount: u32,
-    pub closed: u32,
-    pub stamp: u32,
-    pub reset: bool,
-}
 
 // One serial meter: its last reading, if there was one.
 pub struct Meter {

@@ -18,8 +18,8 @@ use Rattle.tariff.specs.Weekly.{weeklyActive}
 use Rattle.tariff.specs.Rules.{forceMapAt}
 use Rattle.tariff.specs.declared.Program.{Program}
 use Rattle.image.specs.declared.Config.{Config}
-use Rattle.recorder.specs.declared.Bill.{Bill}
-use Rattle.recorder.specs.declared.Line.{Line}
+use Rattle.counting.specs.declared.Bill.{Bill}
+use Rattle.counting.specs.declared.Line.{Line}
 use Rattle.recorder.specs.declared.Meter.{Meter}
 use Rattle.recorder.specs.declared.State.{State}
 use Rattle.registers.specs.Fleet.{meterAt, classAt}

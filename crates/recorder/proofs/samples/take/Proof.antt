@@ -10,7 +10,7 @@ use borrow.Author.Tests.{ltb-true}
 use borrow.Author.Needs.{needs}
 use Rattle.laws.specs.Tests.{and-left}
 use Rattle.laws.specs.Arrays.{length-mapped}
-use Rattle.recorder.specs.Filter.{runningLines}
+use Rattle.counting.specs.Filter.{runningLines}
 use Rattle.recorder.specs.Periods.{tickOf}
 use Rattle.recorder.specs.Samples.{activeLines, putIn, samplesOf}
 use Rattle.recorder.proofs.Turns.{later, active-mask, run-on, run-refused, run-done, sample-idle, sample-end, sample-full, sample-counted, sample-ticked, running-after, lines-after, bills-after, ticked-parts, ticked-runs, ticked-lines, ticked-clock, not-at-end, idle-test}

@@ -10,7 +10,7 @@ use Rattle.laws.specs.Any.{any}
 use Rattle.laws.specs.Total.{total}
 use Rattle.laws.specs.Masks.{bitAt}
 use Rattle.laws.specs.Tables.{table}
-use Rattle.image.specs.declared.Register.{Register}
+use Rattle.settings.specs.declared.Register.{Register}
 use Rattle.counting.specs.declared.Bill.{Bill}
 use Rattle.counting.specs.declared.bills.Booked.{Booked}
 

@@ -8,7 +8,7 @@ use lib.ListN.{getD}
 use Rattle.laws.specs.If.{if_then_else_}
 use Rattle.laws.specs.Masks.{maskOf, bitAt}
 use Rattle.laws.specs.Tables.{table}
-use Rattle.image.specs.declared.Input.{Input}
+use Rattle.settings.specs.declared.Input.{Input}
 use Rattle.counting.specs.declared.Line.{Line}
 use Rattle.counting.specs.declared.filter.Stepped.{Stepped}
 

@@ -7,8 +7,8 @@ use lib.ListN.{getD}
 use Rattle.laws.specs.If.{if_then_else_}
 use Rattle.laws.specs.Tables.{table}
 use Rattle.laws.specs.SignedTotal.{totalℤ}
-use Rattle.image.specs.declared.Config.{Config}
-use Rattle.image.specs.declared.Slot.{Slot}
+use Rattle.settings.specs.declared.Config.{Config}
+use Rattle.settings.specs.declared.Slot.{Slot}
 use Rattle.counting.specs.Filter.{lineAt}
 use Rattle.counting.specs.Bills.{unitAt, sumAt}
 use Rattle.counting.specs.declared.Line.{Line}

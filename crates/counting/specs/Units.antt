@@ -6,7 +6,7 @@ use lib.Dec.{ltb, eqb}
 use Rattle.laws.specs.If.{if_then_else_}
 use Rattle.laws.specs.Masks.{bitAt}
 use Rattle.laws.specs.Tables.{table}
-use Rattle.image.specs.declared.Input.{Input}
+use Rattle.settings.specs.declared.Input.{Input}
 use Rattle.counting.specs.Filter.{inputAt, lineAt}
 use Rattle.counting.specs.declared.Line.{Line}
 use Rattle.counting.specs.declared.units.Credits.{Credits}

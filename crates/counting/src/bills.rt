@@ -93,12 +93,7 @@ fn book_bill(bill: Bill, due: u64) -> Bill
     }
 }
 
-pub fn book_bills(
-    registers: [Register; 16],
-    bills: [Bill; 16],
-    map: u16,
-    sums: [u64; 8],
-) -> Booked
+pub fn book_bills(registers: [Register; 16], bills: [Bill; 16], map: u16, sums: [u64; 8]) -> Booked
     ensures { λ r. ⌜ r ≡ bookedOf registers bills map sums ⌝ }
 {
     let mut next = bills;

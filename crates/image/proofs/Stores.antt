@@ -11,8 +11,8 @@ use Rattle.tariff.specs.declared.Window.{Window}
 use Rattle.tariff.specs.declared.Program.{Program}
 use Rattle.image.specs.Entries.{inputBytes, coefficientBytes, slotBytes, windowBytes, seasonBytes, holidayBytes, ruleBytes, registerBytes}
 use Rattle.image.specs.Image.{headBytes, programBytes, encode, Counted, CountedProgram}
-use Rattle.image.specs.declared.Input.{Input}
-use Rattle.image.specs.declared.Config.{Config}
+use Rattle.settings.specs.declared.Input.{Input}
+use Rattle.settings.specs.declared.Config.{Config}
 use Rattle.image.proofs.Entries.{input, coefficient, slot, window, season, holiday, rule, register}
 
 -- the parts of an input stored one after another are the input stored

@@ -15,9 +15,9 @@ use Rattle.laws.specs.Total.{total-zero}
 use Rattle.laws.specs.Masks.{bitAt, bit-zero}
 use Rattle.laws.specs.Tables.{table, table-at, table-cong, table-self, length-table}
 use Rattle.tariff.specs.Rules.{forceMapAt}
-use Rattle.image.specs.declared.Config.{Config}
-use Rattle.image.specs.declared.Input.{Input}
-use Rattle.image.specs.declared.Register.{Register}
+use Rattle.settings.specs.declared.Config.{Config}
+use Rattle.settings.specs.declared.Input.{Input}
+use Rattle.settings.specs.declared.Register.{Register}
 use Rattle.counting.specs.Filter.{inputAt, lineAt, steppedOf, filteredAt}
 use Rattle.counting.specs.Units.{creditIf, unitsIf, creditedAt, unitsAt, creditsOf}
 use Rattle.counting.specs.Bills.{registerAt, billAt, unitAt, partOf, namedPart, sumOf, sumAt, sumsOf, registerUnits, feeds, dueOf, fills, billed, dueAt, fillsAt, billedAt, bookedOf, wantsAt, wantsMap}

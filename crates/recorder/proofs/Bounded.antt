@@ -18,10 +18,10 @@ use Rattle.laws.specs.Masks.{bitAt}
 use Rattle.laws.specs.Tables.{table, table-at}
 use Rattle.calendar.specs.Moments.{momentOf}
 use Rattle.calendar.specs.declared.Moment.{Moment}
-use Rattle.image.specs.Rules.{periods, periodGood, inputGood, runsGood, ratioGood, sixZeros}
-use Rattle.image.specs.Check.{sections}
-use Rattle.image.specs.declared.Config.{Config}
-use Rattle.image.specs.declared.Input.{Input}
+use Rattle.settings.specs.Rules.{periods, periodGood, inputGood, runsGood, ratioGood, sixZeros}
+use Rattle.settings.specs.Check.{sections}
+use Rattle.settings.specs.declared.Config.{Config}
+use Rattle.settings.specs.declared.Input.{Input}
 use Rattle.counting.specs.Filter.{inputAt, lineAt, filtered, filteredAt, steppedOf}
 use Rattle.counting.specs.Units.{unitsOf, heldSum, credited, creditIf, creditedAt, creditsOf}
 use Rattle.recorder.specs.Periods.{multiple, cleared, clearedAt, clearedLines, tickOf}

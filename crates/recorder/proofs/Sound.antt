@@ -18,9 +18,9 @@ use Rattle.laws.specs.Tables.{table, table-at, length-table}
 use Rattle.calendar.specs.Moments.{momentOf}
 use Rattle.calendar.specs.declared.Moment.{Moment}
 use Rattle.tariff.specs.Rules.{forceMapAt}
-use Rattle.image.specs.declared.Config.{Config}
-use Rattle.image.specs.declared.Input.{Input}
-use Rattle.image.specs.declared.Register.{Register}
+use Rattle.settings.specs.declared.Config.{Config}
+use Rattle.settings.specs.declared.Input.{Input}
+use Rattle.settings.specs.declared.Register.{Register}
 use Rattle.counting.specs.Filter.{inputAt, lineAt, nextRun, filtered, filteredAt, steppedOf}
 use Rattle.counting.specs.Units.{remainderOf, credited, creditIf, creditedAt, creditsOf}
 use Rattle.counting.specs.Bills.{registerAt, billAt, fills, billed, dueAt, fillsAt, billedAt, bookedOf}

@@ -17,8 +17,8 @@ use Rattle.laws.specs.Answers.{Answer, given, refused}
 use Rattle.laws.specs.Masks.{maskOf, bitAt, bit-at, bit-zero, mask-below, mask-cong, mask-ext, mask-zero}
 use Rattle.laws.specs.BitTests.{either, bit-and, bit-or, bit-xor}
 use Rattle.laws.specs.Tables.{table, table-at, table-cong, table-self, length-table}
-use Rattle.image.specs.declared.Config.{Config}
-use Rattle.image.specs.declared.Input.{Input}
+use Rattle.settings.specs.declared.Config.{Config}
+use Rattle.settings.specs.declared.Input.{Input}
 use Rattle.counting.specs.Filter.{inputAt, lineAt, active, nextRun, ends, fitting, oneMore, accepted, filtered, filteredAt, acceptedAt, steppedOf, kindAt, kindMask, runningAt, runningLines}
 use Rattle.counting.specs.Units.{credited, creditIf, creditedAt, creditsOf}
 use Rattle.counting.specs.Bills.{bookedOf}

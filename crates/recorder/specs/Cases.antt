@@ -19,7 +19,7 @@ use Rattle.tariff.specs.Weekly.{fitsAt, firstHoliday, columnOn, referenceAt, we
 use Rattle.tariff.specs.Seasons.{inSeason, seasonActive}
 use Rattle.tariff.specs.Rules.{applies, inForce, forceMap, forceOf}
 use Rattle.tariff.specs.declared.Program.{Program}
-use Rattle.image.specs.declared.Config.{Config}
+use Rattle.settings.specs.declared.Config.{Config}
 use Rattle.counting.specs.Filter.{lineAt, accepted, filtered, filteredAt, acceptedAt, steppedOf}
 use Rattle.counting.specs.Units.{unitsOf, remainderOf, credited, creditIf, unitsIf, creditedAt, unitsAt, creditsOf}
 use Rattle.counting.specs.Bills.{billAt, namedPart, sumOf, sumAt, sumsOf, registerUnits, dueOf, fills, billed, dueAt, fillsAt, billedAt, bookedOf}

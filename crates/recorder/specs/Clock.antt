@@ -9,8 +9,8 @@ use Rattle.laws.specs.Answers.{Answer, given, refused}
 use Rattle.laws.specs.Tables.{table}
 use Rattle.calendar.specs.Moments.{momentOf}
 use Rattle.calendar.specs.declared.Moment.{Moment}
-use Rattle.image.specs.declared.Config.{Config}
-use Rattle.image.specs.declared.Register.{Register}
+use Rattle.settings.specs.declared.Config.{Config}
+use Rattle.settings.specs.declared.Register.{Register}
 use Rattle.counting.specs.Bills.{registerAt, billAt}
 use Rattle.recorder.specs.Periods.{clearedLines, closedAs}
 use Rattle.counting.specs.declared.Bill.{Bill}

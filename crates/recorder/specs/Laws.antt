@@ -4,9 +4,9 @@ use mathlib.Core.List.{List}
 use Prim.Native.Nat.{ℕ, _+_, _*_, _-_, _<_, _≤_}
 use lib.ListN.{length}
 use Rattle.laws.specs.Each.{Each}
-use Rattle.image.specs.Check.{sections, Holds}
-use Rattle.image.specs.declared.Config.{Config}
-use Rattle.image.specs.declared.Input.{Input}
+use Rattle.settings.specs.Check.{sections, Holds}
+use Rattle.settings.specs.declared.Config.{Config}
+use Rattle.settings.specs.declared.Input.{Input}
 use Rattle.counting.specs.Filter.{inputAt, lineAt}
 use Rattle.counting.specs.Units.{unitsOf, heldSum}
 use Rattle.counting.specs.Bills.{billAt}

@@ -8,7 +8,7 @@ use lib.IntN.{ℤ}
 use lib.ListN.{getD, set}
 use Rattle.laws.specs.If.{if_then_else_}
 use Rattle.laws.specs.Answers.{Answer, given, refused}
-use Rattle.image.specs.declared.Config.{Config}
+use Rattle.settings.specs.declared.Config.{Config}
 use Rattle.recorder.specs.declared.meters.Age.{Age}
 use Rattle.recorder.specs.declared.meters.Age.the-variants.{Awake, Stale, Invalid, Never}
 use Rattle.recorder.specs.declared.meters.AgeAnswer.{AgeAnswer}

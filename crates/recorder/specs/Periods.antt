@@ -6,7 +6,7 @@ use Prim.Native.Nat.{ℕ, _+_, _*_, _%_}
 use lib.Dec.{eqb}
 use Rattle.laws.specs.If.{if_then_else_}
 use Rattle.laws.specs.Tables.{table}
-use Rattle.image.specs.declared.Config.{Config}
+use Rattle.settings.specs.declared.Config.{Config}
 use Rattle.counting.specs.Filter.{lineAt}
 use Rattle.counting.specs.Levels.{level0, slotValues}
 use Rattle.counting.specs.declared.Line.{Line}

@@ -7,8 +7,8 @@ use Rattle.laws.specs.If.{if_then_else_}
 use Rattle.laws.specs.Answers.{Answer, given, refused}
 use Rattle.laws.specs.Masks.{maskOf, bitAt}
 use Rattle.tariff.specs.Rules.{forceMapAt}
-use Rattle.image.specs.declared.Config.{Config}
-use Rattle.image.specs.declared.Input.{Input}
+use Rattle.settings.specs.declared.Config.{Config}
+use Rattle.settings.specs.declared.Input.{Input}
 use Rattle.counting.specs.Filter.{inputAt, active, steppedOf}
 use Rattle.counting.specs.Units.{creditsOf}
 use Rattle.counting.specs.Bills.{sumsOf, bookedOf}

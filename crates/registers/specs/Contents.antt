@@ -17,7 +17,7 @@ use Rattle.tariff.specs.Daily.{dailyActive}
 use Rattle.tariff.specs.Weekly.{weeklyActive}
 use Rattle.tariff.specs.Rules.{forceMapAt}
 use Rattle.tariff.specs.declared.Program.{Program}
-use Rattle.image.specs.declared.Config.{Config}
+use Rattle.settings.specs.declared.Config.{Config}
 use Rattle.counting.specs.declared.Bill.{Bill}
 use Rattle.counting.specs.declared.Line.{Line}
 use Rattle.recorder.specs.declared.Meter.{Meter}

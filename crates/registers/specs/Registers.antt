@@ -6,8 +6,8 @@ use lib.Dec.{ltb, leb, eqb}
 use lib.ListN.{length, drop, getD}
 use Rattle.laws.specs.If.{if_then_else_}
 use Rattle.laws.specs.Answers.{Answer, given, refused}
-use Rattle.image.specs.Rules.{noInput, noSlot, noRegister}
-use Rattle.image.specs.declared.Config.{Config}
+use Rattle.settings.specs.Rules.{noInput, noSlot, noRegister}
+use Rattle.settings.specs.declared.Config.{Config}
 use Rattle.counting.specs.Filter.{lineAt}
 use Rattle.counting.specs.Bills.{billAt}
 use Rattle.recorder.specs.declared.Recorder.{Recorder}

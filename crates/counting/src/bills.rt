@@ -1,7 +1,7 @@
 // Bills: what a sample books to the bill registers.
 use crate::Bill;
 use crate::filter::is_on;
-use image::Register;
+use settings::Register;
 use tariff::Program;
 ghost use mathlib.Core.Path.{_≡_};
 ghost use Prim.Native.Nat.{_≤_};

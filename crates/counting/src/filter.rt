@@ -1,6 +1,6 @@
 // The filter of the lines: which of them are active, their runs, and the impulses that end.
 use crate::Line;
-use image::Input;
+use settings::Input;
 ghost use mathlib.Core.Path.{_≡_};
 ghost use Prim.Native.Nat.{_<_, _^_};
 ghost use Rattle.laws.specs.Masks.{withBit, bitAt};

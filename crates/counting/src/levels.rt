@@ -1,8 +1,8 @@
 // Levels 1, 2 and 9, worked out from level 0 when a period closes.
 use crate::Line;
 use crate::bills::sum_units;
-use image::Config;
-use image::Slot;
+use settings::Config;
+use settings::Slot;
 ghost use mathlib.Core.Path.{_≡_};
 ghost use Prim.Native.Nat.{_+_, _≤_, _<_, _^_};
 ghost use lib.IntN.{pos, natAbs, _+ℤ_, _*ℤ_};

@@ -1,7 +1,7 @@
 // Units: what an accepted impulse adds to its line.
 use crate::Line;
 use crate::filter::is_on;
-use image::Input;
+use settings::Input;
 ghost use mathlib.Core.Path.{_≡_};
 ghost use Rattle.counting.specs.Units.{unitsOf, remainderOf, heldSum, creditIf, unitsIf, creditsOf};
 

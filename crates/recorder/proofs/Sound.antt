@@ -24,8 +24,8 @@ use Rattle.settings.specs.declared.Register.{Register}
 use Rattle.counting.specs.Filter.{inputAt, lineAt, nextRun, filtered, filteredAt, steppedOf}
 use Rattle.counting.specs.Units.{remainderOf, credited, creditIf, creditedAt, creditsOf}
 use Rattle.counting.specs.Bills.{registerAt, billAt, fills, billed, dueAt, fillsAt, billedAt, bookedOf}
-use Rattle.recorder.specs.Periods.{multiple, cleared, clearedAt, clearedLines, tickOf}
-use Rattle.recorder.specs.Samples.{bookingOf, activeLines, bookingOn, putIn, countedOf, clockEnd, sampleOf}
+use Rattle.sampling.specs.Periods.{multiple, cleared, clearedAt, clearedLines, tickOf}
+use Rattle.sampling.specs.Samples.{bookingOf, activeLines, bookingOn, putIn, countedOf, clockEnd, sampleOf}
 use Rattle.recorder.specs.Clock.{setTo, setDated, setOf, closedBill, closedBillAt, resetOf}
 use Rattle.recorder.specs.Meters.{readingOf}
 use Rattle.recorder.specs.Calls.{freshState, replyTo}
@@ -33,7 +33,7 @@ use Rattle.recorder.specs.History.{Call, sample, set as set-call, readin
 use Rattle.recorder.specs.Laws.{SoundLines, SoundBills, Sound, ReachedIsSound, ConfigStays}
 use Rattle.counting.specs.declared.Line.{Line}
 use Rattle.counting.specs.declared.Bill.{Bill}
-use Rattle.recorder.specs.declared.State.{State}
+use Rattle.sampling.specs.declared.State.{State}
 use Rattle.recorder.specs.declared.Recorder.{Recorder}
 use Rattle.counting.proofs.Full.{not-full}
 

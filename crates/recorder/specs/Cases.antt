@@ -24,10 +24,10 @@ use Rattle.counting.specs.Filter.{lineAt, accepted, filtered, filteredAt, accep
 use Rattle.counting.specs.Units.{unitsOf, remainderOf, credited, creditIf, unitsIf, creditedAt, unitsAt, creditsOf}
 use Rattle.counting.specs.Bills.{billAt, namedPart, sumOf, sumAt, sumsOf, registerUnits, dueOf, fills, billed, dueAt, fillsAt, billedAt, bookedOf}
 use Rattle.counting.specs.Levels.{level0At, level0, termAt, level2, inputValue, sumValue, functionValue, slotValue, slotValueAt, slotValues}
-use Rattle.recorder.specs.Periods.{multiple, cleared, clearedAt, clearedLines, closedAs, tickOf}
-use Rattle.recorder.specs.Samples.{bookingOf, activeAt, activeLines, countedOf, sampleOf, samplesOf}
+use Rattle.sampling.specs.Periods.{multiple, cleared, clearedAt, clearedLines, closedAs, tickOf}
+use Rattle.sampling.specs.Samples.{bookingOf, activeAt, activeLines, countedOf, sampleOf, samplesOf}
 use Rattle.recorder.specs.Calls.{freshState}
-use Rattle.recorder.specs.declared.State.{State}
+use Rattle.sampling.specs.declared.State.{State}
 
 -- a tariff program: rule A in the minutes before noon, rule B after them, each day
 abbrev twoTariffs : Program

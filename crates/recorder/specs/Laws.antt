@@ -13,7 +13,7 @@ use Rattle.counting.specs.Bills.{billAt}
 use Rattle.recorder.specs.History.{Call, afterAll, freshStart}
 use Rattle.counting.specs.declared.Line.{Line}
 use Rattle.counting.specs.declared.Bill.{Bill}
-use Rattle.recorder.specs.declared.State.{State}
+use Rattle.sampling.specs.declared.State.{State}
 
 -- sixteen lines, each with a run of at most 256 and a remainder below its denominator
 pub record SoundLines (inputs : List Input) (lines : List Line) : Type 0 where

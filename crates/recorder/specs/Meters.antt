@@ -13,7 +13,7 @@ use Rattle.recorder.specs.declared.meters.Age.{Age}
 use Rattle.recorder.specs.declared.meters.Age.the-variants.{Awake, Stale, Invalid, Never}
 use Rattle.recorder.specs.declared.meters.AgeAnswer.{AgeAnswer}
 use Rattle.recorder.specs.declared.meters.AgeAnswer.the-variants.{Class, NotFitted, BadStatus}
-use Rattle.recorder.specs.declared.State.{State}
+use Rattle.sampling.specs.declared.State.{State}
 
 -- the numbers of the classes: 0 awake, 1 stale, 2 invalid, 3 never
 abbrev pub ageNumber : Age → ℕ

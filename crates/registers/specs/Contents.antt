@@ -20,8 +20,8 @@ use Rattle.tariff.specs.declared.Program.{Program}
 use Rattle.settings.specs.declared.Config.{Config}
 use Rattle.counting.specs.declared.Bill.{Bill}
 use Rattle.counting.specs.declared.Line.{Line}
-use Rattle.recorder.specs.declared.Meter.{Meter}
-use Rattle.recorder.specs.declared.State.{State}
+use Rattle.sampling.specs.declared.Meter.{Meter}
+use Rattle.sampling.specs.declared.State.{State}
 use Rattle.registers.specs.Fleet.{meterAt, classAt}
 use Rattle.registers.specs.declared.fleet.Fleet.{Fleet}
 

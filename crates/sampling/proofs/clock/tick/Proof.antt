@@ -1,8 +1,8 @@
--- `recorder::clock::tick` meets its contract: both ways out rewrite the step by what the calls ensure.
+-- `sampling::clock::tick` meets its contract: both ways out rewrite the step by what the calls ensure.
 use borrow.Author.Needs.{needs}
-use Rattle.recorder.specs.Periods.{tickOf}
-use Rattle.recorder.proofs.clock.tick.Statement.{statement}
-use Rattle.recorder.proofs.clock.tick.Tie as tie
+use Rattle.sampling.specs.Periods.{tickOf}
+use Rattle.sampling.proofs.clock.tick.Statement.{statement}
+use Rattle.sampling.proofs.clock.tick.Tie as tie
 
 returns : tie.Need-returns
 unfolding tickOf

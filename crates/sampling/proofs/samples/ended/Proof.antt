@@ -1,7 +1,7 @@
--- `recorder::samples::ended` meets its contract.
+-- `sampling::samples::ended` meets its contract.
 use borrow.Author.Needs.{needs}
-use Rattle.recorder.proofs.samples.ended.Statement.{statement}
-use Rattle.recorder.proofs.samples.ended.Tie as tie
+use Rattle.sampling.proofs.samples.ended.Statement.{statement}
+use Rattle.sampling.proofs.samples.ended.Tie as tie
 
 returns : tie.Need-returns
 returns c = rw (c .put-in .ensures)

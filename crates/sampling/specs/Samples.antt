@@ -12,14 +12,14 @@ use Rattle.settings.specs.declared.Input.{Input}
 use Rattle.counting.specs.Filter.{inputAt, active, steppedOf}
 use Rattle.counting.specs.Units.{creditsOf}
 use Rattle.counting.specs.Bills.{sumsOf, bookedOf}
-use Rattle.recorder.specs.Periods.{tickOf}
-use Rattle.recorder.specs.declared.State.{State}
-use Rattle.recorder.specs.declared.SampleAnswer.{SampleAnswer}
-use Rattle.recorder.specs.declared.SampleAnswer.the-variants.{Taken, ClockEnd, Full}
-use Rattle.recorder.specs.declared.samples.Taking.{Taking}
+use Rattle.sampling.specs.Periods.{tickOf}
+use Rattle.sampling.specs.declared.State.{State}
+use Rattle.sampling.specs.declared.SampleAnswer.{SampleAnswer}
+use Rattle.sampling.specs.declared.SampleAnswer.the-variants.{Taken, ClockEnd, Full}
+use Rattle.sampling.specs.declared.samples.Taking.{Taking}
 use Rattle.counting.specs.declared.Line.{Line}
 use Rattle.counting.specs.declared.Bill.{Bill}
-use Rattle.recorder.specs.declared.booking.Booking.{Booking}
+use Rattle.sampling.specs.declared.booking.Booking.{Booking}
 
 -- what a sample books at a clock, given the mask of active lines: filter, units, sums, tariff at the present second, bills
 unfoldable pub bookingOf : Config → ℕ → List Line → List Bill → ℕ → Booking

@@ -1,9 +1,9 @@
--- `recorder::booking::book` meets its contract: each way out is a law over what the calls ensure.
+-- `sampling::booking::book` meets its contract: each way out is a law over what the calls ensure.
 use borrow.Author.Needs.{needs}
 use Rattle.laws.specs.Arrays.{length-mapped}
-use Rattle.recorder.proofs.Books.{quiet-booking, busy-booking}
-use Rattle.recorder.proofs.booking.book.Statement.{statement}
-use Rattle.recorder.proofs.booking.book.Tie as tie
+use Rattle.sampling.proofs.Books.{quiet-booking, busy-booking}
+use Rattle.sampling.proofs.booking.book.Statement.{statement}
+use Rattle.sampling.proofs.booking.book.Tie as tie
 
 returns : tie.Need-returns
 returns c = quiet-booking _ _ _ _ _ _ (c .before .before .step-lines .ensures) (c .if1 .taken) (search (needs, length-mapped))

@@ -10,8 +10,8 @@ use Rattle.settings.specs.declared.Config.{Config}
 use Rattle.counting.specs.Filter.{lineAt}
 use Rattle.counting.specs.Levels.{level0, slotValues}
 use Rattle.counting.specs.declared.Line.{Line}
-use Rattle.recorder.specs.declared.Period.{Period}
-use Rattle.recorder.specs.declared.State.{State}
+use Rattle.sampling.specs.declared.Period.{Period}
+use Rattle.sampling.specs.declared.State.{State}
 
 -- a time is a multiple of the period's seconds; a period of 0 minutes, which no image has, has no multiple
 unfoldable pub multiple : ℕ → ℕ → Bool

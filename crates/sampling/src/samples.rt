@@ -7,9 +7,9 @@ use crate::booking::book;
 use crate::clock::tick;
 use counting::filter::kind_mask;
 use counting::filter::running_lines;
-use image::Config;
+use settings::Config;
 ghost use mathlib.Core.Path.{_≡_};
-ghost use Rattle.recorder.specs.Samples.{putIn, endedAs, samplesOf, said};
+ghost use Rattle.sampling.specs.Samples.{putIn, endedAs, samplesOf, said};
 
 pub struct Taking {
     pub taken: usize,
@@ -49,7 +49,7 @@ fn ended(
 }
 
 // The samples one after another, up to the first refusal. A sample with no line active and no run to end only counts, unless it is the hundredth.
-pub(crate) fn take(config: Config, start: State, bits: &[u16]) -> Taking
+pub fn take(config: Config, start: State, bits: &[u16]) -> Taking
     ensures { λ r. ⌜ said r ≡ samplesOf config start (now (bits .entry)) ⌝ }
 {
     let inputs = config.inputs;

@@ -1,9 +1,9 @@
--- `recorder::clock::is_multiple` meets its contract.
+-- `sampling::clock::is_multiple` meets its contract.
 use borrow.Author.Tests.{eq-eqb, ne-eqb}
 use borrow.Author.Needs.{needs}
-use Rattle.recorder.specs.Periods.{multiple}
-use Rattle.recorder.proofs.clock.is_multiple.Statement.{statement}
-use Rattle.recorder.proofs.clock.is_multiple.Tie as tie
+use Rattle.sampling.specs.Periods.{multiple}
+use Rattle.sampling.proofs.clock.is_multiple.Statement.{statement}
+use Rattle.sampling.proofs.clock.is_multiple.Tie as tie
 
 returns : tie.Need-returns
 unfolding multiple

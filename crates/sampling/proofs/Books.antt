@@ -21,7 +21,7 @@ use Rattle.settings.specs.declared.Register.{Register}
 use Rattle.counting.specs.Filter.{inputAt, lineAt, steppedOf, filteredAt}
 use Rattle.counting.specs.Units.{creditIf, unitsIf, creditedAt, unitsAt, creditsOf}
 use Rattle.counting.specs.Bills.{registerAt, billAt, unitAt, partOf, namedPart, sumOf, sumAt, sumsOf, registerUnits, feeds, dueOf, fills, billed, dueAt, fillsAt, billedAt, bookedOf, wantsAt, wantsMap}
-use Rattle.recorder.specs.Samples.{bookingOf}
+use Rattle.sampling.specs.Samples.{bookingOf}
 use Rattle.counting.specs.declared.Line.{Line}
 use Rattle.counting.specs.declared.filter.Stepped.{Stepped}
 use Rattle.counting.specs.declared.units.Credits.{Credits}

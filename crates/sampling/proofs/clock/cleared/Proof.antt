@@ -1,13 +1,13 @@
--- `recorder::clock::cleared` meets its contract. The loop's invariant: the lines before i begin anew.
+-- `sampling::clock::cleared` meets its contract. The loop's invariant: the lines before i begin anew.
 use mathlib.Core.Path.{_≡_, refl}
 use Prim.Native.Nat.{_-_, _≤_}
 use native.Mathlib.Omega.{arith}
 use borrow.Author.Needs.{needs}
 use Rattle.laws.specs.Arrays.{length-mapped}
 use Rattle.laws.specs.Tables.{fillTo, fill-none, fill-more, fill-done}
-use Rattle.recorder.specs.Periods.{cleared, clearedAt, clearedLines}
-use Rattle.recorder.proofs.clock.cleared.Statement.{statement}
-use Rattle.recorder.proofs.clock.cleared.Tie as tie
+use Rattle.sampling.specs.Periods.{cleared, clearedAt, clearedLines}
+use Rattle.sampling.proofs.clock.cleared.Statement.{statement}
+use Rattle.sampling.proofs.clock.cleared.Tie as tie
 
 abbrev Inv-loop : tie.InvT-loop
 Inv-loop lines next₀ i₀ next i = (i ≤ 16) × (next ≡ fillTo (clearedAt lines) i next₀)

@@ -22,14 +22,13 @@ use Rattle.settings.specs.declared.Input.{Input}
 use Rattle.counting.specs.Filter.{inputAt, lineAt, active, nextRun, ends, fitting, oneMore, accepted, filtered, filteredAt, acceptedAt, steppedOf, kindAt, kindMask, runningAt, runningLines}
 use Rattle.counting.specs.Units.{credited, creditIf, creditedAt, creditsOf}
 use Rattle.counting.specs.Bills.{bookedOf}
-use Rattle.recorder.specs.Periods.{multiple, cleared, clearedAt, clearedLines, tickOf}
-use Rattle.recorder.specs.Samples.{bookingOf, activeAt, activeLines, bookingOn, putIn, countedOf, clockEnd, sampleOf, Run, onward, samplesOf}
-use Rattle.recorder.specs.Calls.{replyTo}
+use Rattle.sampling.specs.Periods.{multiple, cleared, clearedAt, clearedLines, tickOf}
+use Rattle.sampling.specs.Samples.{bookingOf, activeAt, activeLines, bookingOn, putIn, countedOf, clockEnd, sampleOf, Run, onward, samplesOf}
 use Rattle.counting.specs.declared.Line.{Line}
 use Rattle.counting.specs.declared.Bill.{Bill}
-use Rattle.recorder.specs.declared.State.{State}
-use Rattle.recorder.specs.declared.booking.Booking.{Booking}
-use Rattle.recorder.proofs.Books.{no-impulse}
+use Rattle.sampling.specs.declared.State.{State}
+use Rattle.sampling.specs.declared.booking.Booking.{Booking}
+use Rattle.sampling.proofs.Books.{no-impulse}
 
 -- the test of an active line, by the two masks of kinds
 by-kind : (kind : ℕ) (b : Bool) → (either b (eqb kind 2) && (eqb kind 1 || eqb kind 2)) ≡ active kind b
@@ -260,14 +259,3 @@ idle-test count mask running e =
       eqb-true mask 0 (and-left (eqb mask 0) _ idle),
       eqb-true running 0 (and-right (eqb mask 0) _ idle),
     )
-
--- a run of one sample is the sample
-pub one-sample : (c : Config) (s : State) (bits : ℕ) (r : Run) → r ≡ samplesOf c s (bits ∷ [])
-    → record { number = r .number; state = r .state } ≡ replyTo s (sampleOf c s bits)
-unfolding samplesOf
-one-sample c s bits r e = rw e (first-of s (sampleOf c s bits))
-  where
-    first-of : (s : State) (a : Answer State)
-        → record { number = onward s a (λ next. record { taken = 0; number = 0; state = next }) .number; state = onward s a (λ next. record { taken = 0; number = 0; state = next }) .state } ≡ replyTo s a
-    first-of s (given next) = refl
-    first-of s (refused n offset) = refl

@@ -1,8 +1,8 @@
--- `recorder::clock::close_period` meets its contract.
+-- `sampling::clock::close_period` meets its contract.
 use borrow.Author.Needs.{needs}
-use Rattle.recorder.specs.Periods.{closedAs}
-use Rattle.recorder.proofs.clock.close_period.Statement.{statement}
-use Rattle.recorder.proofs.clock.close_period.Tie as tie
+use Rattle.sampling.specs.Periods.{closedAs}
+use Rattle.sampling.proofs.clock.close_period.Statement.{statement}
+use Rattle.sampling.proofs.clock.close_period.Tie as tie
 
 returns : tie.Need-returns
 unfolding closedAs

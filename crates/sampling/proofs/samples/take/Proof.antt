@@ -1,4 +1,4 @@
--- `recorder::samples::take` meets its contract. The loop's invariant: what is left to take from the state put together of its parts, counted on from k, is the whole run.
+-- `sampling::samples::take` meets its contract. The loop's invariant: what is left to take from the state put together of its parts, counted on from k, is the whole run.
 use mathlib.Core.Path.{_≡_, refl, sym, ap, _∙_}
 use Prim.Native.Nat.{_+_, _-_, _<_, _≤_}
 use native.Mathlib.Omega.{arith}
@@ -11,11 +11,11 @@ use borrow.Author.Needs.{needs}
 use Rattle.laws.specs.Tests.{and-left}
 use Rattle.laws.specs.Arrays.{length-mapped}
 use Rattle.counting.specs.Filter.{runningLines}
-use Rattle.recorder.specs.Periods.{tickOf}
-use Rattle.recorder.specs.Samples.{activeLines, putIn, samplesOf}
-use Rattle.recorder.proofs.Turns.{later, active-mask, run-on, run-refused, run-done, sample-idle, sample-end, sample-full, sample-counted, sample-ticked, running-after, lines-after, bills-after, ticked-parts, ticked-runs, ticked-lines, ticked-clock, not-at-end, idle-test}
-use Rattle.recorder.proofs.samples.take.Statement.{statement}
-use Rattle.recorder.proofs.samples.take.Tie as tie
+use Rattle.sampling.specs.Periods.{tickOf}
+use Rattle.sampling.specs.Samples.{activeLines, putIn, samplesOf}
+use Rattle.sampling.proofs.Turns.{later, active-mask, run-on, run-refused, run-done, sample-idle, sample-end, sample-full, sample-counted, sample-ticked, running-after, lines-after, bills-after, ticked-parts, ticked-runs, ticked-lines, ticked-clock, not-at-end, idle-test}
+use Rattle.sampling.proofs.samples.take.Statement.{statement}
+use Rattle.sampling.proofs.samples.take.Tie as tie
 
 abbrev Inv-loop : tie.InvT-loop
 Inv-loop config bits s1r fitted rest₀ clock₀ count₀ lines₀ bills₀ running₀ k₀ rest clock count lines bills running k =

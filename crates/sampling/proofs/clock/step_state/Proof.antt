@@ -1,7 +1,7 @@
--- `recorder::clock::step_state` meets its contract.
+-- `sampling::clock::step_state` meets its contract.
 use borrow.Author.Needs.{needs}
-use Rattle.recorder.proofs.clock.step_state.Statement.{statement}
-use Rattle.recorder.proofs.clock.step_state.Tie as tie
+use Rattle.sampling.proofs.clock.step_state.Statement.{statement}
+use Rattle.sampling.proofs.clock.step_state.Tie as tie
 
 returns : tie.Need-returns
 returns c = rw (← c .before .is-multiple .ensures, c .if1 .taken)

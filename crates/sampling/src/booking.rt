@@ -7,9 +7,9 @@ use counting::bills::sums_units;
 use counting::bills::wants_map;
 use counting::filter::step_lines;
 use counting::units::credit_lines;
-use image::Config;
+use settings::Config;
 ghost use mathlib.Core.Path.{_≡_};
-ghost use Rattle.recorder.specs.Samples.{bookingOf};
+ghost use Rattle.sampling.specs.Samples.{bookingOf};
 
 // The lines and the bills after a sample; where a register would be full, nothing of it counts.
 pub struct Booking {

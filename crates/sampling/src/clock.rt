@@ -3,10 +3,10 @@ use crate::Line;
 use crate::Period;
 use crate::State;
 use counting::levels::level9;
-use image::Config;
+use settings::Config;
 ghost use mathlib.Core.Path.{_≡_};
 ghost use Prim.Native.Nat.{_<_};
-ghost use Rattle.recorder.specs.Periods.{multiple, clearedLines, stateOf, closedAs, tickOf};
+ghost use Rattle.sampling.specs.Periods.{multiple, clearedLines, stateOf, closedAs, tickOf};
 
 // Whether a time is a multiple of the period's seconds. No image has a period of 0 minutes; one that had would have no multiple.
 pub(crate) fn is_multiple(period: u8, time: u32) -> bool
@@ -20,7 +20,7 @@ pub(crate) fn is_multiple(period: u8, time: u32) -> bool
 }
 
 // The lines at the start of a period: only level 0 begins anew.
-pub(crate) fn cleared(lines: [Line; 16]) -> [Line; 16]
+pub fn cleared(lines: [Line; 16]) -> [Line; 16]
     ensures { λ r. ⌜ r ≡ clearedLines lines ⌝ }
 {
     let mut next = lines;
@@ -37,7 +37,7 @@ pub(crate) fn cleared(lines: [Line; 16]) -> [Line; 16]
 }
 
 // The period that closes: its state, its closing time, its chosen values.
-pub(crate) fn close_period(config: Config, state: u8, stamp: u32, lines: [Line; 16]) -> Period
+pub fn close_period(config: Config, state: u8, stamp: u32, lines: [Line; 16]) -> Period
     ensures { λ r. ⌜ r ≡ closedAs config state stamp lines ⌝ }
 {
     let values = level9(config, lines);

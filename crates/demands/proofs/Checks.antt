@@ -8,8 +8,8 @@ use native.Mathlib.Nat.{mul-assoc, mul-comm, mul-one, mul-div-cancel-left, eq-or
 use native.Mathlib.Omega.{arith}
 use Rattle.laws.specs.If.{if_then_else_}
 use Rattle.laws.specs.Masks.{bit, bitAt}
-use Rattle.image.specs.declared.Config.{Config}
-use Rattle.recorder.specs.Filter.{inputAt}
+use Rattle.settings.specs.declared.Config.{Config}
+use Rattle.counting.specs.Filter.{inputAt}
 use Rattle.demands.specs.Account.{Event, took, cleared, Sample, whole, since, running, stretchesOf, feeding, productOf}
 use Rattle.demands.specs.Demand3.{endsOf, oldestOn, StretchesThatCount, ScaleIsExact, Demand3}
 use Rattle.demands.proofs.Demand3.{feeds-fitted, open-amount, plain-bills, amounts-add-up}

@@ -19,18 +19,18 @@ use Rattle.laws.specs.Each.{Each}
 use Rattle.calendar.specs.Moments.{yearDay, momentOf}
 use Rattle.calendar.specs.declared.Moment.{Moment}
 use Rattle.image.specs.Image.{decode}
-use Rattle.image.specs.Check.{Section, sections, FirstBadAt, firstBad, checked}
+use Rattle.settings.specs.Check.{Section, sections, FirstBadAt, firstBad, checked}
 use Rattle.image.specs.Answers.{marked, imageAnswer, writeAnswer, afterWrite}
-use Rattle.image.specs.declared.Config.{Config}
+use Rattle.settings.specs.declared.Config.{Config}
 use Rattle.image.proofs.Found.{value-exactly}
-use Rattle.recorder.specs.Bills.{fills, fillsAt, bookedOf}
-use Rattle.recorder.specs.Samples.{bookingOf, bookingOn, clockEnd, sampleOf}
+use Rattle.counting.specs.Bills.{fills, fillsAt, bookedOf}
+use Rattle.sampling.specs.Samples.{bookingOf, bookingOn, clockEnd, sampleOf}
 use Rattle.recorder.specs.Clock.{setOf}
 use Rattle.recorder.specs.Meters.{classOf, ageOf, readingOf}
 use Rattle.recorder.specs.Calls.{startReply, sampleReply, setReply, readingReply, replyTo}
 use Rattle.recorder.specs.declared.Recorder.{Recorder}
-use Rattle.recorder.specs.declared.Bill.{Bill}
-use Rattle.recorder.specs.declared.State.{State}
+use Rattle.counting.specs.declared.Bill.{Bill}
+use Rattle.sampling.specs.declared.State.{State}
 use Rattle.registers.specs.Registers.{Group, groups, lookUp, groupOf, replyOf, registerReply}
 use Rattle.registers.proofs.Groups.{none-found}
 use Rattle.registers.proofs.Laws.{refused-leaves}

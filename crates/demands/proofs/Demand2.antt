@@ -23,17 +23,17 @@ use Rattle.calendar.proofs.Moments.{always-dated, found-is-moment, one-moment}
 use Rattle.tariff.proofs.Laws.{bit-is-rule}
 use Rattle.image.proofs.Laws.{written-is-read, read-is-written}
 use Rattle.registers.proofs.Laws.{bytes-as-table, invalid-mark, awake-unmarked}
-use Rattle.image.specs.declared.Config.{Config}
-use Rattle.recorder.specs.Filter.{inputAt, nextRun, oneMore}
-use Rattle.recorder.specs.Periods.{multiple, tickOf}
-use Rattle.recorder.specs.Samples.{activeAt, bookingOn, putIn, countedOf, clockEnd, sampleOf}
+use Rattle.settings.specs.declared.Config.{Config}
+use Rattle.counting.specs.Filter.{inputAt, nextRun, oneMore}
+use Rattle.sampling.specs.Periods.{multiple, tickOf}
+use Rattle.sampling.specs.Samples.{activeAt, bookingOn, putIn, countedOf, clockEnd, sampleOf}
 use Rattle.recorder.specs.Clock.{setTo, setOf, resetOf}
 use Rattle.recorder.specs.Meters.{readingOf}
 use Rattle.recorder.specs.Calls.{freshState, sampleReply, setReply, readingReply}
 use Rattle.recorder.specs.History.{sample, set as set-call, reading, reset, afterAll, freshStart}
-use Rattle.recorder.specs.declared.Meter.{Meter}
+use Rattle.sampling.specs.declared.Meter.{Meter}
 use Rattle.recorder.specs.declared.Recorder.{Recorder}
-use Rattle.recorder.specs.declared.State.{State}
+use Rattle.sampling.specs.declared.State.{State}
 use Rattle.recorder.proofs.Sound.{reached-is-sound, config-stays}
 use Rattle.registers.specs.Fleet.{meterAt, classAt, awakeValue, awakeSum, classesOf, fleetOf}
 use Rattle.demands.specs.Account.{Time, Event, took, cleared, runOf, endsImpulse}

@@ -12,15 +12,15 @@ use Rattle.laws.specs.Any.{any-not}
 use Rattle.laws.specs.Each.{Each}
 use Rattle.laws.specs.Total.{total, total-cong}
 use Rattle.laws.specs.Masks.{bit, bitAt}
-use Rattle.image.specs.Rules.{inputGood, runsGood, ratioGood, sixZeros, fittedIn, sumGood}
-use Rattle.image.specs.Check.{sections}
-use Rattle.image.specs.declared.Config.{Config}
-use Rattle.image.specs.declared.Input.{Input}
-use Rattle.recorder.specs.Filter.{inputAt}
-use Rattle.recorder.specs.Bills.{registerAt, partOf, namedPart, sumOf}
+use Rattle.settings.specs.Rules.{inputGood, runsGood, ratioGood, sixZeros, fittedIn, sumGood}
+use Rattle.settings.specs.Check.{sections}
+use Rattle.settings.specs.declared.Config.{Config}
+use Rattle.settings.specs.declared.Input.{Input}
+use Rattle.counting.specs.Filter.{inputAt}
+use Rattle.counting.specs.Bills.{registerAt, partOf, namedPart, sumOf}
 use Rattle.recorder.specs.Calls.{freshState}
 use Rattle.recorder.specs.History.{Call}
-use Rattle.recorder.specs.declared.State.{State}
+use Rattle.sampling.specs.declared.State.{State}
 use Rattle.demands.specs.Account.{Event, took, eventsOf, closedOf, whole, since, booksAt, stretchesOf, impulsesOf, feeding, countOf, scaleOf, energyOf}
 use Rattle.demands.specs.Demand3.{Accepted, InUse, WithoutRule, Near, OpenAmount, PlainBills, OnSumOf, ExactlyOne, AmountsAddUp}
 use Rattle.demands.proofs.Sums.{added, added-cong, added-zero, added-share}

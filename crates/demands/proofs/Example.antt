@@ -17,15 +17,15 @@ use Rattle.tariff.specs.Daily.{windowActive, dailyActive}
 use Rattle.tariff.specs.Weekly.{fitsAt, firstHoliday, columnOn, referenceAt, weeklyActive}
 use Rattle.tariff.specs.Seasons.{inSeason, seasonActive}
 use Rattle.tariff.specs.Rules.{applies, inForce, forceMap, forceOf}
-use Rattle.image.specs.Rules.{noInput, fittedIn, sumGood}
-use Rattle.image.specs.Check.{sections, firstBad, checked}
+use Rattle.settings.specs.Rules.{noInput, fittedIn, sumGood}
+use Rattle.settings.specs.Check.{sections, firstBad, checked}
 use Rattle.image.proofs.Found.{good-exactly}
-use Rattle.recorder.specs.Filter.{inputAt, accepted, filtered, filteredAt, acceptedAt, steppedOf}
-use Rattle.recorder.specs.Units.{unitsOf, remainderOf, credited, creditIf, unitsIf, creditedAt, unitsAt, creditsOf}
-use Rattle.recorder.specs.Bills.{namedPart, sumOf, sumAt, sumsOf, registerUnits, dueOf, fills, billed, dueAt, fillsAt, billedAt, bookedOf}
-use Rattle.recorder.specs.Levels.{level0At, level0, termAt, level2, inputValue, sumValue, functionValue, slotValue, slotValueAt, slotValues}
-use Rattle.recorder.specs.Periods.{multiple, cleared, clearedAt, clearedLines, closedAs, tickOf}
-use Rattle.recorder.specs.Samples.{bookingOf, activeAt, activeLines, countedOf, sampleOf}
+use Rattle.counting.specs.Filter.{inputAt, accepted, filtered, filteredAt, acceptedAt, steppedOf}
+use Rattle.counting.specs.Units.{unitsOf, remainderOf, credited, creditIf, unitsIf, creditedAt, unitsAt, creditsOf}
+use Rattle.counting.specs.Bills.{namedPart, sumOf, sumAt, sumsOf, registerUnits, dueOf, fills, billed, dueAt, fillsAt, billedAt, bookedOf}
+use Rattle.counting.specs.Levels.{level0At, level0, termAt, level2, inputValue, sumValue, functionValue, slotValue, slotValueAt, slotValues}
+use Rattle.sampling.specs.Periods.{multiple, cleared, clearedAt, clearedLines, closedAs, tickOf}
+use Rattle.sampling.specs.Samples.{bookingOf, activeAt, activeLines, countedOf, sampleOf}
 use Rattle.recorder.specs.Clock.{setTo, setOf, closedBill, closedBillAt, resetOf}
 use Rattle.recorder.specs.Meters.{readingOf}
 use Rattle.recorder.specs.Calls.{freshState}

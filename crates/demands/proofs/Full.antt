@@ -12,19 +12,19 @@ use Rattle.laws.specs.First.{first}
 use Rattle.laws.specs.Any.{any}
 use Rattle.laws.specs.Total.{total}
 use Rattle.laws.specs.Masks.{bit, maskOf, bitAt, bit-at, bit-zero}
-use Rattle.image.specs.Rules.{fittedIn, sumGood}
-use Rattle.image.specs.Check.{sections, firstBad, checked}
-use Rattle.image.specs.declared.Config.{Config}
-use Rattle.image.specs.declared.Input.{Input}
+use Rattle.settings.specs.Rules.{fittedIn, sumGood}
+use Rattle.settings.specs.Check.{sections, firstBad, checked}
+use Rattle.settings.specs.declared.Config.{Config}
+use Rattle.settings.specs.declared.Input.{Input}
 use Rattle.image.proofs.Found.{good-exactly}
-use Rattle.recorder.specs.Filter.{inputAt, accepted}
-use Rattle.recorder.specs.Units.{unitsOf, remainderOf}
-use Rattle.recorder.specs.Bills.{registerAt, sumOf}
-use Rattle.recorder.specs.Samples.{activeAt, bookingOn, clockEnd, sampleOf}
+use Rattle.counting.specs.Filter.{inputAt, accepted}
+use Rattle.counting.specs.Units.{unitsOf, remainderOf}
+use Rattle.counting.specs.Bills.{registerAt, sumOf}
+use Rattle.sampling.specs.Samples.{activeAt, bookingOn, clockEnd, sampleOf}
 use Rattle.recorder.specs.Calls.{sampleReply, replyTo}
 use Rattle.recorder.specs.History.{Call, sample, reset, afterAll, freshStart}
 use Rattle.recorder.specs.Laws.{Good}
-use Rattle.recorder.specs.declared.State.{State}
+use Rattle.sampling.specs.declared.State.{State}
 use Rattle.recorder.proofs.Sound.{config-stays}
 use Rattle.demands.specs.Account.{Time, tick, Event, took, takesSample, timeOf, eventsOf, closedOf, runOf, whole, always, impulsesOf, feeding}
 use Rattle.demands.specs.Demand3.{InUse}

@@ -18,19 +18,19 @@ use Rattle.laws.specs.Answers.{Answer}
 use Rattle.calendar.specs.Moments.{yearDay, momentOf}
 use Rattle.calendar.specs.declared.Moment.{Moment}
 use Rattle.tariff.specs.Rules.{forceMapAt}
-use Rattle.image.specs.declared.Config.{Config}
-use Rattle.image.specs.declared.Input.{Input}
-use Rattle.recorder.specs.Filter.{inputAt, lineAt, nextRun, accepted, filtered, filteredAt, acceptedAt, steppedOf, oneMore, ends, fitting}
-use Rattle.recorder.specs.Units.{unitsOf, remainderOf, credited, creditIf, unitsIf, creditedAt, unitsAt, creditsOf}
-use Rattle.recorder.specs.Bills.{feeds, fills, registerAt, billAt, unitAt, partOf, namedPart, sumOf, sumAt, sumsOf, registerUnits, dueOf, billed, dueAt, fillsAt, billedAt, bookedOf}
-use Rattle.recorder.specs.Periods.{multiple, cleared, clearedAt, clearedLines, tickOf}
-use Rattle.recorder.specs.Samples.{bookingOf, activeAt, activeLines, bookingOn, putIn, countedOf, clockEnd, sampleOf}
+use Rattle.settings.specs.declared.Config.{Config}
+use Rattle.settings.specs.declared.Input.{Input}
+use Rattle.counting.specs.Filter.{inputAt, lineAt, nextRun, accepted, filtered, filteredAt, acceptedAt, steppedOf, oneMore, ends, fitting}
+use Rattle.counting.specs.Units.{unitsOf, remainderOf, credited, creditIf, unitsIf, creditedAt, unitsAt, creditsOf}
+use Rattle.counting.specs.Bills.{feeds, fills, registerAt, billAt, unitAt, partOf, namedPart, sumOf, sumAt, sumsOf, registerUnits, dueOf, billed, dueAt, fillsAt, billedAt, bookedOf}
+use Rattle.sampling.specs.Periods.{multiple, cleared, clearedAt, clearedLines, tickOf}
+use Rattle.sampling.specs.Samples.{bookingOf, activeAt, activeLines, bookingOn, putIn, countedOf, clockEnd, sampleOf}
 use Rattle.recorder.specs.Clock.{setTo, setDated, setOf, closedBill, closedBillAt, resetOf}
 use Rattle.recorder.specs.Meters.{readingOf}
 use Rattle.recorder.specs.Calls.{freshState, replyTo}
-use Rattle.recorder.specs.declared.Line.{Line}
-use Rattle.recorder.specs.declared.Bill.{Bill}
-use Rattle.recorder.specs.declared.State.{State}
+use Rattle.counting.specs.declared.Line.{Line}
+use Rattle.counting.specs.declared.Bill.{Bill}
+use Rattle.sampling.specs.declared.State.{State}
 use Rattle.demands.specs.Account.{Time, tick, booksAt, feeding}
 use Rattle.demands.specs.Demand3.{InUse}
 

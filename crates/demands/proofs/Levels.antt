@@ -14,19 +14,19 @@ use Rattle.laws.specs.Tests.{by-test}
 use Rattle.laws.specs.Answers.{Answer}
 use Rattle.calendar.specs.Moments.{yearDay, momentOf}
 use Rattle.calendar.specs.declared.Moment.{Moment}
-use Rattle.image.specs.Check.{sections}
-use Rattle.image.specs.declared.Config.{Config}
-use Rattle.image.specs.declared.Input.{Input}
-use Rattle.recorder.specs.Filter.{inputAt, lineAt, nextRun, filtered}
-use Rattle.recorder.specs.Units.{unitsOf, heldSum, credited, creditIf}
-use Rattle.recorder.specs.Periods.{multiple, cleared, tickOf}
-use Rattle.recorder.specs.Samples.{activeAt, bookingOn, putIn, countedOf, clockEnd, sampleOf}
+use Rattle.settings.specs.Check.{sections}
+use Rattle.settings.specs.declared.Config.{Config}
+use Rattle.settings.specs.declared.Input.{Input}
+use Rattle.counting.specs.Filter.{inputAt, lineAt, nextRun, filtered}
+use Rattle.counting.specs.Units.{unitsOf, heldSum, credited, creditIf}
+use Rattle.sampling.specs.Periods.{multiple, cleared, tickOf}
+use Rattle.sampling.specs.Samples.{activeAt, bookingOn, putIn, countedOf, clockEnd, sampleOf}
 use Rattle.recorder.specs.Clock.{setTo, setDated, setOf, resetOf}
 use Rattle.recorder.specs.Meters.{readingOf}
 use Rattle.recorder.specs.Calls.{freshState, replyTo}
 use Rattle.recorder.specs.History.{Call, sample, set, reading, reset, afterAll}
-use Rattle.recorder.specs.declared.Line.{Line}
-use Rattle.recorder.specs.declared.State.{State}
+use Rattle.counting.specs.declared.Line.{Line}
+use Rattle.sampling.specs.declared.State.{State}
 use Rattle.recorder.proofs.Sound.{config-stays, reached-is-sound}
 use Rattle.recorder.proofs.Bounded.{hold-never-acts}
 use Rattle.demands.specs.Account.{Event, took, cleared as cleared-event, Sample, takesSample, takesSet, timeOf, eventsOf, runOf, endsImpulse, whole, always, impulsesOf}

@@ -9,11 +9,11 @@ use Rattle.laws.specs.Bytes.{Bytes, le, bytes-drop}
 use Rattle.laws.specs.Runs.{entries}
 use Rattle.calendar.specs.Moments.{momentOf}
 use Rattle.calendar.specs.declared.Moment.{Moment}
-use Rattle.image.specs.Rules.{noInput}
+use Rattle.settings.specs.Rules.{noInput}
 use Rattle.image.specs.Entries.{inputOf}
 use Rattle.image.specs.Image.{decode}
 use Rattle.image.specs.Answers.{imageAnswer, imageConfig}
-use Rattle.image.specs.declared.Input.{Input}
+use Rattle.settings.specs.declared.Input.{Input}
 use Rattle.image.proofs.Found.{read-holds}
 use Rattle.recorder.specs.Calls.{startDated, startFrom}
 use Rattle.recorder.specs.History.{freshStart}

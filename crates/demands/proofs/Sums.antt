@@ -8,7 +8,7 @@ use native.Mathlib.Omega.{arith}
 use Rattle.laws.specs.If.{if_then_else_}
 use Rattle.laws.specs.Tests.{by-test}
 use Rattle.laws.specs.Total.{total, total-cong, total-zero}
-use Rattle.recorder.specs.Bills.{partOf}
+use Rattle.counting.specs.Bills.{partOf}
 use Rattle.demands.specs.Account.{productOf}
 
 -- f added up over the named places

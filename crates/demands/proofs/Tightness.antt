@@ -1,11 +1,14 @@
 -- The page of specs/Tightness.antt: each crate proves it of its own functions in its proofs/Unique.antt.
 use Rattle.calendar.proofs.Unique as calendar
 use Rattle.tariff.proofs.Unique as tariff
+use Rattle.settings.proofs.Unique as settings
 use Rattle.image.proofs.Unique as image
+use Rattle.counting.proofs.Unique as counting
+use Rattle.sampling.proofs.Unique as sampling
 use Rattle.recorder.proofs.Unique as recorder
 use Rattle.registers.proofs.Unique as registers
 use Rattle.host.proofs.Unique as host
-use Rattle.demands.specs.Tightness.{OneCalendar, OneTariff, OneImage, OneRecorder, OneRegisters, OneHost, NoPrecondition, Tight}
+use Rattle.demands.specs.Tightness.{OneCalendar, OneTariff, OneSettings, OneImage, OneCounting, OneSampling, OneRecorder, OneRegisters, OneHost, NoPrecondition, Tight}
 
 pub one-calendar : OneCalendar
 one-calendar =
@@ -32,10 +35,15 @@ one-tariff =
       force-map-at = tariff.force-map-at;
     }
 
+pub one-settings : OneSettings
+one-settings =
+    record {
+      check-config = settings.check-config;
+    }
+
 pub one-image : OneImage
 one-image =
     record {
-      check-config = image.check-config;
       blank-config = image.blank-config;
       read-image = image.read-image;
       check-image = image.check-image;
@@ -44,6 +52,28 @@ one-image =
       write-then-read = image.write-then-read;
       read-then-write = image.read-then-write;
       tester-line = image.tester-line;
+    }
+
+pub one-counting : OneCounting
+one-counting =
+    record {
+      step-lines = counting.step-lines;
+      kind-mask = counting.kind-mask;
+      running-lines = counting.running-lines;
+      credit-lines = counting.credit-lines;
+      sums-units = counting.sums-units;
+      book-bills = counting.book-bills;
+      wants-map = counting.wants-map;
+      map-if = counting.map-if;
+      level9 = counting.level9;
+    }
+
+pub one-sampling : OneSampling
+one-sampling =
+    record {
+      take = sampling.take-once;
+      cleared = sampling.cleared;
+      close-period = sampling.close-period;
     }
 
 pub one-recorder : OneRecorder
@@ -93,7 +123,7 @@ no-precondition =
       tariff-in-force = λ κs args. tt;
       tariff-force-map = λ κs args. tt;
       tariff-force-map-at = λ κs args. tt;
-      image-check-config = λ κs args. tt;
+      settings-check-config = λ κs args. tt;
       image-blank-config = λ κs args. tt;
       image-read-image = λ κs args. tt;
       image-check-image = λ κs args. tt;
@@ -101,6 +131,18 @@ no-precondition =
       image-write-then-read = λ κs args. tt;
       image-read-then-write = λ κs args. tt;
       image-tester-line = λ κs args. tt;
+      counting-step-lines = λ κs args. tt;
+      counting-kind-mask = λ κs args. tt;
+      counting-running-lines = λ κs args. tt;
+      counting-credit-lines = λ κs args. tt;
+      counting-sums-units = λ κs args. tt;
+      counting-book-bills = λ κs args. tt;
+      counting-wants-map = λ κs args. tt;
+      counting-map-if = λ κs args. tt;
+      counting-level9 = λ κs args. tt;
+      sampling-take = λ κs args. tt;
+      sampling-cleared = λ κs args. tt;
+      sampling-close-period = λ κs args. tt;
       recorder-start = λ κs args. tt;
       recorder-sample = λ κs args. tt;
       recorder-samples = λ κs args. tt;
@@ -117,4 +159,4 @@ no-precondition =
     }
 
 pub tight : Tight
-tight = record { calendar = one-calendar; tariff = one-tariff; image = one-image; recorder = one-recorder; registers = one-registers; host = one-host; free = no-precondition }
+tight = record { calendar = one-calendar; tariff = one-tariff; settings = one-settings; image = one-image; counting = one-counting; sampling = one-sampling; recorder = one-recorder; registers = one-registers; host = one-host; free = no-precondition }

@@ -9,15 +9,15 @@ use borrow.Author.Tests.{ltb-true, ltb-false, leb-true, leb-false, lt-leb, ne-eq
 use Rattle.laws.specs.If.{if_then_else_}
 use Rattle.laws.specs.Tests.{by-test}
 use Rattle.laws.specs.Masks.{bitAt}
-use Rattle.image.specs.declared.Config.{Config}
-use Rattle.image.specs.declared.Input.{Input}
-use Rattle.recorder.specs.Filter.{inputAt, nextRun, accepted}
-use Rattle.recorder.specs.Units.{unitsOf, remainderOf}
-use Rattle.recorder.specs.Bills.{namedPart, sumOf}
-use Rattle.recorder.specs.Samples.{activeAt}
+use Rattle.settings.specs.declared.Config.{Config}
+use Rattle.settings.specs.declared.Input.{Input}
+use Rattle.counting.specs.Filter.{inputAt, nextRun, accepted}
+use Rattle.counting.specs.Units.{unitsOf, remainderOf}
+use Rattle.counting.specs.Bills.{namedPart, sumOf}
+use Rattle.sampling.specs.Samples.{activeAt}
 use Rattle.recorder.specs.Calls.{freshState}
 use Rattle.recorder.specs.History.{Call, sample, set, reading, reset, afterAll, freshStart}
-use Rattle.recorder.specs.declared.State.{State}
+use Rattle.sampling.specs.declared.State.{State}
 use Rattle.recorder.specs.declared.Recorder.{Recorder}
 use Rattle.recorder.proofs.Sound.{config-stays, reached-is-sound}
 use Rattle.demands.specs.Account.{Time, tick, Event, took, cleared, Sample, takesSample, takesSet, timeOf, eventsOf, closedOf, runOf, endsImpulse, whole, since, booksAt, feeding}

@@ -9,10 +9,10 @@ use lib.ListN.{getD}
 use Rattle.laws.specs.If.{if_then_else_}
 use Rattle.laws.specs.Masks.{bit, bitAt}
 use Rattle.tariff.specs.Rules.{forceMapAt}
-use Rattle.image.specs.declared.Config.{Config}
-use Rattle.recorder.specs.Filter.{inputAt}
-use Rattle.recorder.specs.Bills.{registerAt, billAt, sumOf, feeds}
-use Rattle.recorder.specs.Samples.{activeAt}
+use Rattle.settings.specs.declared.Config.{Config}
+use Rattle.counting.specs.Filter.{inputAt}
+use Rattle.counting.specs.Bills.{registerAt, billAt, sumOf, feeds}
+use Rattle.sampling.specs.Samples.{activeAt}
 use Rattle.recorder.specs.Calls.{sampleReply, setReply}
 use Rattle.recorder.specs.History.{Call, sample, set, reading, reset, afterAll, freshStart}
 

@@ -16,13 +16,13 @@ use Rattle.calendar.specs.Moments.{momentOf}
 use Rattle.calendar.specs.declared.Moment.{Moment}
 use Rattle.tariff.specs.Rules.{forceMapAt}
 use Rattle.image.specs.Image.{decode}
-use Rattle.image.specs.Check.{sections, FirstBadAt}
+use Rattle.settings.specs.Check.{sections, FirstBadAt}
 use Rattle.image.specs.Answers.{imageAnswer, writeAnswer, afterWrite}
-use Rattle.image.specs.declared.Config.{Config}
-use Rattle.recorder.specs.Filter.{steppedOf}
-use Rattle.recorder.specs.Units.{creditsOf}
-use Rattle.recorder.specs.Bills.{billAt, sumsOf, dueAt}
-use Rattle.recorder.specs.Samples.{activeLines}
+use Rattle.settings.specs.declared.Config.{Config}
+use Rattle.counting.specs.Filter.{steppedOf}
+use Rattle.counting.specs.Units.{creditsOf}
+use Rattle.counting.specs.Bills.{billAt, sumsOf, dueAt}
+use Rattle.sampling.specs.Samples.{activeLines}
 use Rattle.recorder.specs.Meters.{ageOf}
 use Rattle.recorder.specs.Calls.{startReply, sampleReply, setReply, readingReply}
 use Rattle.recorder.specs.declared.Recorder.{Recorder}

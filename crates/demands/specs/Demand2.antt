@@ -16,13 +16,13 @@ use Rattle.calendar.specs.declared.Moment.{Moment}
 use Rattle.tariff.specs.Rules.{inForce, forceMapAt}
 use Rattle.tariff.specs.declared.Program.{Program}
 use Rattle.image.specs.Laws.{WrittenIsRead, ReadIsWritten}
-use Rattle.image.specs.declared.Config.{Config}
-use Rattle.recorder.specs.Filter.{inputAt, lineAt}
-use Rattle.recorder.specs.Periods.{multiple}
-use Rattle.recorder.specs.Samples.{activeAt}
+use Rattle.settings.specs.declared.Config.{Config}
+use Rattle.counting.specs.Filter.{inputAt, lineAt}
+use Rattle.sampling.specs.Periods.{multiple}
+use Rattle.sampling.specs.Samples.{activeAt}
 use Rattle.recorder.specs.Calls.{freshState, readingReply}
 use Rattle.recorder.specs.History.{Call, sample, set, reading, reset, afterAll, freshStart}
-use Rattle.recorder.specs.declared.Meter.{Meter}
+use Rattle.sampling.specs.declared.Meter.{Meter}
 use Rattle.recorder.specs.declared.Recorder.{Recorder}
 use Rattle.registers.specs.Fleet.{meterAt, fleetOf}
 use Rattle.registers.specs.Laws.{InvalidMark, AwakeUnmarked, BytesAsTable}

@@ -10,9 +10,9 @@ use Rattle.laws.specs.Masks.{bit, bitAt}
 use Rattle.laws.specs.Bytes.{Bytes}
 use Rattle.laws.specs.Answers.{given}
 use Rattle.image.specs.Answers.{imageConfig}
-use Rattle.image.specs.declared.Config.{Config}
-use Rattle.recorder.specs.Filter.{inputAt}
-use Rattle.recorder.specs.Bills.{registerAt, partOf}
+use Rattle.settings.specs.declared.Config.{Config}
+use Rattle.counting.specs.Filter.{inputAt}
+use Rattle.counting.specs.Bills.{registerAt, partOf}
 use Rattle.recorder.specs.Calls.{startReply}
 use Rattle.recorder.specs.History.{Call, freshStart}
 use Rattle.recorder.specs.Laws.{Good}

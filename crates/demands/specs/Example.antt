@@ -9,7 +9,7 @@ use lib.ListN.{replicate}
 use Rattle.laws.specs.Each.{Each}
 use Rattle.laws.specs.Tables.{table}
 use Rattle.tariff.specs.declared.Program.{Program}
-use Rattle.image.specs.declared.Config.{Config}
+use Rattle.settings.specs.declared.Config.{Config}
 use Rattle.recorder.specs.Calls.{sampleReply}
 use Rattle.recorder.specs.History.{Call, sample, set, reading, reset, afterAll, freshStart}
 use Rattle.demands.specs.Account.{Event, took, cleared, eventsOf, closedOf, openOf, whole, since, booksAt, always, impulsesOf, stretchesOf, feeding, countOf, scaleOf, energyOf, wholeUnitsOf}

@@ -17,7 +17,7 @@ use Rattle.tariff.proofs.season_active.Reads as tariff-season-active
 use Rattle.tariff.proofs.in_force.Reads as tariff-in-force
 use Rattle.tariff.proofs.force_map.Reads as tariff-force-map
 use Rattle.tariff.proofs.force_map_at.Reads as tariff-force-map-at
-use Rattle.image.proofs.check_config.Reads as image-check-config
+use Rattle.settings.proofs.check_config.Reads as settings-check-config
 use Rattle.image.proofs.blank_config.Reads as image-blank-config
 use Rattle.image.proofs.read_image.Reads as image-read-image
 use Rattle.image.proofs.check_image.Reads as image-check-image
@@ -25,6 +25,18 @@ use Rattle.image.proofs.write_image.Reads as image-write-image
 use Rattle.image.proofs.write_then_read.Reads as image-write-then-read
 use Rattle.image.proofs.read_then_write.Reads as image-read-then-write
 use Rattle.image.proofs.tester_line.Reads as image-tester-line
+use Rattle.counting.proofs.filter.step_lines.Reads as counting-step-lines
+use Rattle.counting.proofs.filter.kind_mask.Reads as counting-kind-mask
+use Rattle.counting.proofs.filter.running_lines.Reads as counting-running-lines
+use Rattle.counting.proofs.units.credit_lines.Reads as counting-credit-lines
+use Rattle.counting.proofs.bills.sums_units.Reads as counting-sums-units
+use Rattle.counting.proofs.bills.book_bills.Reads as counting-book-bills
+use Rattle.counting.proofs.bills.wants_map.Reads as counting-wants-map
+use Rattle.counting.proofs.bills.map_if.Reads as counting-map-if
+use Rattle.counting.proofs.levels.level9.Reads as counting-level9
+use Rattle.sampling.proofs.samples.take.Reads as sampling-take
+use Rattle.sampling.proofs.clock.cleared.Reads as sampling-cleared
+use Rattle.sampling.proofs.clock.close_period.Reads as sampling-close-period
 use Rattle.recorder.proofs.Recorder.start.Reads as recorder-start
 use Rattle.recorder.proofs.Recorder.sample.Reads as recorder-sample
 use Rattle.recorder.proofs.Recorder.samples.Reads as recorder-samples
@@ -64,9 +76,12 @@ pub record OneTariff : Type 1 where
   pub force-map : OneResult tariff-force-map.Post
   pub force-map-at : OneResult tariff-force-map-at.Post
 
+-- the configuration: no second result fits, and for a lent buffer no second state of it
+pub record OneSettings : Type 1 where
+  pub check-config : OneResult settings-check-config.Post
+
 -- the configuration image: no second result fits, and for a lent buffer no second state of it
 pub record OneImage : Type 1 where
-  pub check-config : OneResult image-check-config.Post
   pub blank-config : OneResult image-blank-config.Post
   pub read-image : OneResult image-read-image.Post
   pub check-image : OneResult image-check-image.Post
@@ -75,6 +90,24 @@ pub record OneImage : Type 1 where
   pub write-then-read : OneResult image-write-then-read.Post
   pub read-then-write : OneResult image-read-then-write.Post
   pub tester-line : OneResult image-tester-line.Post
+
+-- lines, units, bills and levels: no second result fits, and for a lent buffer no second state of it
+pub record OneCounting : Type 1 where
+  pub step-lines : OneResult counting-step-lines.Post
+  pub kind-mask : OneResult counting-kind-mask.Post
+  pub running-lines : OneResult counting-running-lines.Post
+  pub credit-lines : OneResult counting-credit-lines.Post
+  pub sums-units : OneResult counting-sums-units.Post
+  pub book-bills : OneResult counting-book-bills.Post
+  pub wants-map : OneResult counting-wants-map.Post
+  pub map-if : OneResult counting-map-if.Post
+  pub level9 : OneResult counting-level9.Post
+
+-- samples and periods: no second result fits, and for a lent buffer no second state of it
+pub record OneSampling : Type 1 where
+  pub take : OneResult sampling-take.Post
+  pub cleared : OneResult sampling-cleared.Post
+  pub close-period : OneResult sampling-close-period.Post
 
 -- the recorder: no second result fits, and for a lent buffer no second state of it
 pub record OneRecorder : Type 1 where
@@ -116,7 +149,7 @@ pub record NoPrecondition : Type 1 where
   pub tariff-in-force : AsksNothing tariff-in-force.Asked
   pub tariff-force-map : AsksNothing tariff-force-map.Asked
   pub tariff-force-map-at : AsksNothing tariff-force-map-at.Asked
-  pub image-check-config : AsksNothing image-check-config.Asked
+  pub settings-check-config : AsksNothing settings-check-config.Asked
   pub image-blank-config : AsksNothing image-blank-config.Asked
   pub image-read-image : AsksNothing image-read-image.Asked
   pub image-check-image : AsksNothing image-check-image.Asked
@@ -124,6 +157,18 @@ pub record NoPrecondition : Type 1 where
   pub image-write-then-read : AsksNothing image-write-then-read.Asked
   pub image-read-then-write : AsksNothing image-read-then-write.Asked
   pub image-tester-line : AsksNothing image-tester-line.Asked
+  pub counting-step-lines : AsksNothing counting-step-lines.Asked
+  pub counting-kind-mask : AsksNothing counting-kind-mask.Asked
+  pub counting-running-lines : AsksNothing counting-running-lines.Asked
+  pub counting-credit-lines : AsksNothing counting-credit-lines.Asked
+  pub counting-sums-units : AsksNothing counting-sums-units.Asked
+  pub counting-book-bills : AsksNothing counting-book-bills.Asked
+  pub counting-wants-map : AsksNothing counting-wants-map.Asked
+  pub counting-map-if : AsksNothing counting-map-if.Asked
+  pub counting-level9 : AsksNothing counting-level9.Asked
+  pub sampling-take : AsksNothing sampling-take.Asked
+  pub sampling-cleared : AsksNothing sampling-cleared.Asked
+  pub sampling-close-period : AsksNothing sampling-close-period.Asked
   pub recorder-start : AsksNothing recorder-start.Asked
   pub recorder-sample : AsksNothing recorder-sample.Asked
   pub recorder-samples : AsksNothing recorder-samples.Asked
@@ -142,7 +187,10 @@ pub record NoPrecondition : Type 1 where
 pub record Tight : Type 1 where
   pub calendar : OneCalendar
   pub tariff : OneTariff
+  pub settings : OneSettings
   pub image : OneImage
+  pub counting : OneCounting
+  pub sampling : OneSampling
   pub recorder : OneRecorder
   pub registers : OneRegisters
   pub host : OneHost

@@ -13,30 +13,15 @@ use Rattle.laws.specs.Answers.{Answer, given, refused}
 use Rattle.laws.specs.Bytes.{le}
 use Rattle.laws.specs.Masks.{maskOf, bitAt, bit-at}
 use Rattle.image.specs.Image.{encode, decode, Counted}
-use Rattle.image.specs.Rules.{fittedIn}
-use Rattle.image.specs.Check.{verdictAt, orElse, checked}
+use Rattle.settings.specs.Rules.{fittedIn}
+use Rattle.settings.specs.Check.{verdictAt, orElse, checked}
 use Rattle.image.specs.Answers.{imageSaid, marked, imageAnswer, imageConfig, orBlank, IsRead, refusedWith, writeAnswer, afterWrite, orKept}
-use Rattle.image.specs.declared.Config.{Config}
-use Rattle.image.specs.declared.Input.{Input}
+use Rattle.settings.specs.declared.Config.{Config}
+use Rattle.settings.specs.declared.Input.{Input}
 use Rattle.image.specs.declared.ImageRead.{ImageRead}
 use Rattle.image.specs.declared.ImageAnswer.{ImageAnswer}
 use Rattle.image.specs.declared.ImageAnswer.the-variants.{Accepted}
 use Rattle.image.proofs.Stores.{length-encode}
-
--- the mask of the fitted inputs says which are fitted
-pub fitted-test : (inputs : List Input) → bitAt (maskOf 16 (fittedIn inputs)) ≡ fittedIn inputs
-unfolding fittedIn
-fitted-test inputs = fun-ext (λ i. bit-at 16 (fittedIn inputs) i ∙ and-self-left (ltb i 16) _)
-
-module _ (base size count : ℕ) where
-  -- the verdict on a section, and before the verdict on those after it
-  pub verdict-before : {i n : ℕ} {own all later rest : Answer (Unit {0})} → i ≡ n → own ≡ verdictAt base size count i → all ≡ orElse own later → later ≡ rest
-      → all ≡ orElse (verdictAt base size count n) rest
-  verdict-before e f g h = rw (g, f, e, h)
-
-  -- a section in which no rule is broken
-  pub no-verdict : {n : ℕ} {all rest : Answer (Unit {0})} → n ≡ count → all ≡ rest → all ≡ orElse (verdictAt base size count n) rest
-  no-verdict e h = rw (e, le-ltb count count (le-refl _)) h
 
 module _ (b : List ℕ) where
   pub answer-length : (length b ≡ 1126 → ⊥) → imageAnswer b ≡ refused 1 0

@@ -12,7 +12,7 @@ use Rattle.laws.specs.Bytes.{Bytes, bytesOf, le, length-bytesOf, le-bytesOf, by
 use Rattle.laws.specs.Codec.{Codec, part-after}
 use Rattle.image.specs.Entries.{inputBytes, inputOf, coefficientBytes, coefficientOf, slotBytes, slotOf, windowBytes, windowOf, dateOf, seasonBytes, seasonOf, holidayBytes, holidayOf, ruleBytes, ruleOf, registerBytes, registerOf}
 use Rattle.image.specs.Image.{TypedInput, TypedWindow, TypedHoliday}
-use Rattle.image.specs.declared.Input.{Input}
+use Rattle.settings.specs.declared.Input.{Input}
 
 -- an input that was written is read back, whatever the width of its runs
 input-back : (run : ℕ) (x : Input) (t : List ℕ) → TypedInput run x → inputOf run (inputBytes run x ++ t) ≡ x

@@ -12,7 +12,7 @@ use Rattle.laws.specs.Each.{Each}
 use Rattle.laws.specs.First.{first, first-is, first-none, first-at, first-before}
 use Rattle.laws.specs.Broken.{firstBroken}
 use Rattle.laws.specs.Answers.{Answer, given, refused}
-use Rattle.image.specs.Check.{Section, sections, verdictAt, orElse, firstBad, checked, Holds, FirstBadAt, here, later}
+use Rattle.settings.specs.Check.{Section, sections, verdictAt, orElse, firstBad, checked, Holds, FirstBadAt, here, later}
 use Rattle.image.specs.Laws.{GoodExactly, ValueExactly, ReadHolds}
 use Rattle.image.proofs.Laws.{never, read-is-good}
 

@@ -16,10 +16,10 @@ use Rattle.laws.specs.Codec.{part-join, part-after, each-any, section-wide, sec
 use Rattle.tariff.specs.declared.Program.{Program}
 use Rattle.image.specs.Entries.{inputBytes, coefficientBytes, slotBytes, windowBytes, seasonBytes, holidayBytes, ruleBytes, registerBytes}
 use Rattle.image.specs.Image.{headBytes, programBytes, encode, programIn, decode, Counted, CountedProgram, Typed, TypedProgram}
-use Rattle.image.specs.Check.{checked}
+use Rattle.settings.specs.Check.{checked}
 use Rattle.image.specs.Answers.{marked, imageAnswer, imageConfig, orBlank}
 use Rattle.image.specs.Laws.{WrittenIsRead, ReadIsWritten, ReadIsGood, OneConfig}
-use Rattle.image.specs.declared.Config.{Config}
+use Rattle.settings.specs.declared.Config.{Config}
 use Rattle.image.proofs.Entries.{input, coefficient, slot, window, season, holiday, rule, register}
 use Rattle.image.proofs.Stores.{length-program, length-encode}
 use Rattle.image.proofs.Answers.{answer-checked}

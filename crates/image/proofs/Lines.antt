@@ -13,11 +13,11 @@ use Rattle.laws.specs.Broken.{firstBroken}
 use Rattle.laws.specs.Answers.{Answer, given, refused}
 use Rattle.laws.specs.Bytes.{le}
 use Rattle.image.specs.Image.{decode}
-use Rattle.image.specs.Check.{Section, sections, firstBad, checked}
+use Rattle.settings.specs.Check.{Section, sections, firstBad, checked}
 use Rattle.image.specs.Answers.{marked, imageAnswer}
 use Rattle.image.specs.Line.{decimal, lineOf, asLine}
 use Rattle.image.specs.Laws.{RefusalInLine, EmptyLine}
-use Rattle.image.specs.declared.Config.{Config}
+use Rattle.settings.specs.declared.Config.{Config}
 use Rattle.image.proofs.Laws.{never}
 
 -- the letters of a line stand in its text

@@ -7,11 +7,12 @@ use lib.Seq.{sets}
 use Rattle.laws.specs.Bytes.{bytesOf, length-bytesOf}
 use Rattle.laws.specs.Runs.{joined, sets-then}
 use Rattle.laws.specs.Codec.{section-wide, number}
+use Rattle.tariff.specs.declared.Window.{Window}
 use Rattle.tariff.specs.declared.Program.{Program}
 use Rattle.image.specs.Entries.{inputBytes, coefficientBytes, slotBytes, windowBytes, seasonBytes, holidayBytes, ruleBytes, registerBytes}
 use Rattle.image.specs.Image.{headBytes, programBytes, encode, Counted, CountedProgram}
-use Rattle.image.specs.declared.Input.{Input}
-use Rattle.image.specs.declared.Config.{Config}
+use Rattle.settings.specs.declared.Input.{Input}
+use Rattle.settings.specs.declared.Config.{Config}
 use Rattle.image.proofs.Entries.{input, coefficient, slot, window, season, holiday, rule, register}
 
 -- the parts of an input stored one after another are the input stored
@@ -41,6 +42,11 @@ sets-input l at x e₁ e₂ e₃ e₄ e₅ =
       sets-then l at 5 (((k ++ s) ++ g) ++ n) d (simp (length-append, length-bytesOf)),
     )
     (simp append-assoc)
+
+-- the two numbers of a window stored one after another are the window stored
+pub sets-window : (l : List ℕ) (at : ℕ) (x : Window) {l₁ l₂ : List ℕ} → l₁ ≡ sets l at (bytesOf 2 (x .first)) → l₂ ≡ sets l₁ (at + 2) (bytesOf 2 (x .end)) → l₂ ≡ sets l at (windowBytes x)
+unfolding windowBytes
+sets-window l at x e₁ e₂ = rw (e₂, e₁, sets-then l at 2 (bytesOf 2 (x .first)) (bytesOf 2 (x .end)) (length-bytesOf 2 (x .first)))
 
 -- the sections of a program stored one after another are the program stored
 pub sets-program : (p : Program) (l : List ℕ) {l₁ l₂ l₃ l₄ l₅ : List ℕ} → CountedProgram p

@@ -11,9 +11,9 @@ use Rattle.laws.specs.Broken.{firstBroken}
 use Rattle.laws.specs.Answers.{Answer, given, refused}
 use Rattle.laws.specs.Bytes.{Bytes}
 use Rattle.image.specs.Image.{encode, blankConfig, Counted, Typed}
-use Rattle.image.specs.Check.{Section, orElse, sections, firstBad, checked}
+use Rattle.settings.specs.Check.{Section, orElse, sections, firstBad, checked}
 use Rattle.image.specs.Answers.{imageSaid, writeSaid, imageAnswer, imageConfig, IsRead, refusedWith, writeAnswer, afterWrite, ComesBack, orZeros}
-use Rattle.image.specs.declared.Config.{Config}
+use Rattle.settings.specs.declared.Config.{Config}
 use Rattle.image.specs.declared.ImageRead.{ImageRead}
 use Rattle.image.specs.declared.ImageAnswer.the-variants as image
 use Rattle.image.specs.declared.WriteAnswer.{WriteAnswer}

@@ -2,14 +2,11 @@
 use mathlib.Core.Path.{_≡_, sym, _∙_}
 use denote.Ref.{now}
 use Rattle.laws.specs.Unique.{OneResult, OneExit}
-use Rattle.image.specs.Answers.{verdictSaid, imageSaid, writeSaid}
-use Rattle.image.specs.declared.Verdict.{Verdict}
-use Rattle.image.specs.declared.Verdict.the-variants as verdict
+use Rattle.image.specs.Answers.{imageSaid, writeSaid}
 use Rattle.image.specs.declared.ImageAnswer.{ImageAnswer}
 use Rattle.image.specs.declared.ImageAnswer.the-variants as image
 use Rattle.image.specs.declared.WriteAnswer.{WriteAnswer}
 use Rattle.image.specs.declared.WriteAnswer.the-variants as write
-use Rattle.image.proofs.check_config.Reads as check-config-reads
 use Rattle.image.proofs.blank_config.Reads as blank-config-reads
 use Rattle.image.proofs.read_image.Reads as read-image-reads
 use Rattle.image.proofs.check_image.Reads as check-image-reads
@@ -18,14 +15,7 @@ use Rattle.image.proofs.write_then_read.Reads as write-then-read-reads
 use Rattle.image.proofs.read_then_write.Reads as read-then-write-reads
 use Rattle.image.proofs.tester_line.Reads as tester-line-reads
 
--- document 01's number and offset tell all verdicts apart
-pub verdict-apart : (x y : Verdict) → verdictSaid x ≡ verdictSaid y → x ≡ y
-verdict-apart verdict.Good verdict.Good e = cc
-verdict-apart verdict.Good (verdict.Value o) e = cc
-verdict-apart (verdict.Value o) verdict.Good e = cc
-verdict-apart (verdict.Value o) (verdict.Value p) e = cc
-
--- and all answers to an image
+-- document 01's number and offset tell all answers to an image apart
 pub image-apart : (x y : ImageAnswer) → imageSaid x ≡ imageSaid y → x ≡ y
 image-apart image.Accepted image.Accepted e = cc
 image-apart image.Accepted image.Length e = cc
@@ -64,9 +54,6 @@ write-apart (write.Value o) write.NoRoom e = cc
 write-apart write.NoRoom write.Written e = cc
 write-apart write.NoRoom (write.Value o) e = cc
 write-apart write.NoRoom write.NoRoom e = cc
-
-pub check-config : OneResult check-config-reads.Post
-check-config κs a x y e f p q = verdict-apart x y (p ∙ sym q)
 
 pub blank-config : OneResult blank-config-reads.Post
 blank-config κs a x y e f p q = p ∙ sym q

@@ -9,21 +9,15 @@ use Rattle.laws.specs.If.{if_then_else_}
 use Rattle.laws.specs.Answers.{Answer, given, refused}
 use Rattle.laws.specs.Bytes.{le}
 use Rattle.image.specs.Image.{encode, decode, blankConfig}
-use Rattle.image.specs.Check.{checked, orElse}
-use Rattle.image.specs.declared.Config.{Config}
+use Rattle.settings.specs.Check.{checked, orElse}
+use Rattle.settings.specs.declared.Config.{Config}
 use Rattle.image.specs.declared.ImageRead.{ImageRead}
 use Rattle.image.specs.declared.ImageCopy.{ImageCopy}
-use Rattle.image.specs.declared.Verdict.{Verdict}
-use Rattle.image.specs.declared.Verdict.the-variants as verdict
+pub use Rattle.settings.specs.Verdicts.{verdictSaid}
 use Rattle.image.specs.declared.ImageAnswer.{ImageAnswer}
 use Rattle.image.specs.declared.ImageAnswer.the-variants as image
 use Rattle.image.specs.declared.WriteAnswer.{WriteAnswer}
 use Rattle.image.specs.declared.WriteAnswer.the-variants as write
-
--- what a verdict says
-abbrev pub verdictSaid : Verdict → Answer (Unit {0})
-verdictSaid verdict.Good = given tt
-verdictSaid (verdict.Value offset) = refused 4 offset
 
 -- what the answer to an image says
 abbrev pub imageSaid : ImageAnswer → Answer (Unit {0})

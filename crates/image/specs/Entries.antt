@@ -11,9 +11,9 @@ use Rattle.tariff.specs.declared.Date.{Date}
 use Rattle.tariff.specs.declared.Season.{Season}
 use Rattle.tariff.specs.declared.Holiday.{Holiday}
 use Rattle.tariff.specs.declared.Rule.{Rule}
-use Rattle.image.specs.declared.Input.{Input}
-use Rattle.image.specs.declared.Slot.{Slot}
-use Rattle.image.specs.declared.Register.{Register}
+use Rattle.settings.specs.declared.Input.{Input}
+use Rattle.settings.specs.declared.Slot.{Slot}
+use Rattle.settings.specs.declared.Register.{Register}
 
 -- "input: kind, shortest and longest run (one byte each ..), numerator and denominator (two bytes each ..)"; the width of the runs is `run`, 1 in version 1
 unfoldable pub inputBytes : ℕ → Input → List ℕ

@@ -13,9 +13,9 @@ use Rattle.tariff.specs.declared.Window.{Window}
 use Rattle.tariff.specs.declared.Holiday.{Holiday}
 use Rattle.tariff.specs.declared.Program.{Program}
 use Rattle.image.specs.Entries.{inputBytes, inputOf, coefficientBytes, coefficientOf, slotBytes, slotOf, windowBytes, windowOf, seasonBytes, seasonOf, holidayBytes, holidayOf, ruleBytes, ruleOf, registerBytes, registerOf}
-use Rattle.image.specs.Rules.{noInput, noSlot, noWindow, noSeason, noHoliday, noRule, noRegister}
-use Rattle.image.specs.declared.Input.{Input}
-use Rattle.image.specs.declared.Config.{Config}
+use Rattle.settings.specs.Rules.{noInput, noSlot, noWindow, noSeason, noHoliday, noRule, noRegister}
+use Rattle.settings.specs.declared.Input.{Input}
+use Rattle.settings.specs.declared.Config.{Config}
 
 -- "letters KRC", "version, 1" in two bytes, and the period
 unfoldable pub headBytes : ℕ → List ℕ

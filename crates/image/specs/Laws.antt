@@ -7,10 +7,10 @@ use Rattle.laws.specs.Answers.{given, refused}
 use Rattle.laws.specs.Each.{Each}
 use Rattle.laws.specs.Bytes.{Bytes}
 use Rattle.image.specs.Image.{encode, Counted, Typed}
-use Rattle.image.specs.Check.{sections, checked, Holds, FirstBadAt}
+use Rattle.settings.specs.Check.{sections, checked, Holds, FirstBadAt}
 use Rattle.image.specs.Answers.{imageAnswer, imageConfig}
 use Rattle.image.specs.Line.{refusedWord, atWord, lineOf}
-use Rattle.image.specs.declared.Config.{Config}
+use Rattle.settings.specs.declared.Config.{Config}
 
 -- "A configuration written and read back is the same configuration": each good one, whose numbers fit their fields
 abbrev pub WrittenIsRead : Type 0

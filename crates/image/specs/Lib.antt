@@ -1,8 +1,6 @@
 -- Document 01's configuration image: its entries as bytes, the whole image, the rule of each entry, the check, the answers, and what is proved of them.
 pub mod Entries
 pub mod Image
-pub mod Rules
-pub mod Check
 pub mod Answers
 pub mod Line
 pub mod Laws

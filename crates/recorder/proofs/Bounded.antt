@@ -18,21 +18,21 @@ use Rattle.laws.specs.Masks.{bitAt}
 use Rattle.laws.specs.Tables.{table, table-at}
 use Rattle.calendar.specs.Moments.{momentOf}
 use Rattle.calendar.specs.declared.Moment.{Moment}
-use Rattle.image.specs.Rules.{periods, periodGood, inputGood, runsGood, ratioGood, sixZeros}
-use Rattle.image.specs.Check.{sections}
-use Rattle.image.specs.declared.Config.{Config}
-use Rattle.image.specs.declared.Input.{Input}
-use Rattle.recorder.specs.Filter.{inputAt, lineAt, filtered, filteredAt, steppedOf}
-use Rattle.recorder.specs.Units.{unitsOf, heldSum, credited, creditIf, creditedAt, creditsOf}
-use Rattle.recorder.specs.Periods.{multiple, cleared, clearedAt, clearedLines, tickOf}
-use Rattle.recorder.specs.Samples.{bookingOf, activeLines, bookingOn, putIn, countedOf, clockEnd, sampleOf}
+use Rattle.settings.specs.Rules.{periods, periodGood, inputGood, runsGood, ratioGood, sixZeros}
+use Rattle.settings.specs.Check.{sections}
+use Rattle.settings.specs.declared.Config.{Config}
+use Rattle.settings.specs.declared.Input.{Input}
+use Rattle.counting.specs.Filter.{inputAt, lineAt, filtered, filteredAt, steppedOf}
+use Rattle.counting.specs.Units.{unitsOf, heldSum, credited, creditIf, creditedAt, creditsOf}
+use Rattle.sampling.specs.Periods.{multiple, cleared, clearedAt, clearedLines, tickOf}
+use Rattle.sampling.specs.Samples.{bookingOf, activeLines, bookingOn, putIn, countedOf, clockEnd, sampleOf}
 use Rattle.recorder.specs.Clock.{setTo, setDated, setOf, resetOf}
 use Rattle.recorder.specs.Meters.{readingOf}
 use Rattle.recorder.specs.Calls.{freshState, replyTo}
 use Rattle.recorder.specs.History.{Call, sample, set as set-call, reading, reset, after, afterAll, freshStart}
 use Rattle.recorder.specs.Laws.{Sound, Good, samplesOfPeriod, Bounded, ReachedIsBounded, HoldNeverActs}
-use Rattle.recorder.specs.declared.Line.{Line}
-use Rattle.recorder.specs.declared.State.{State}
+use Rattle.counting.specs.declared.Line.{Line}
+use Rattle.sampling.specs.declared.State.{State}
 use Rattle.recorder.specs.declared.Recorder.{Recorder}
 use Rattle.recorder.proofs.Sound.{config-stays, reached-is-sound}
 

@@ -1,7 +1,5 @@
 -- Laws of the recorder's definitions that the proofs of its functions cite.
-pub mod Books
-pub mod Signed
-pub mod Turns
+pub mod Single
 pub mod Starts
 pub mod Unique
 pub mod Sound

@@ -18,24 +18,24 @@ use Rattle.laws.specs.Tables.{table, table-at, length-table}
 use Rattle.calendar.specs.Moments.{momentOf}
 use Rattle.calendar.specs.declared.Moment.{Moment}
 use Rattle.tariff.specs.Rules.{forceMapAt}
-use Rattle.image.specs.declared.Config.{Config}
-use Rattle.image.specs.declared.Input.{Input}
-use Rattle.image.specs.declared.Register.{Register}
-use Rattle.recorder.specs.Filter.{inputAt, lineAt, nextRun, filtered, filteredAt, steppedOf}
-use Rattle.recorder.specs.Units.{remainderOf, credited, creditIf, creditedAt, creditsOf}
-use Rattle.recorder.specs.Bills.{registerAt, billAt, fills, billed, dueAt, fillsAt, billedAt, bookedOf}
-use Rattle.recorder.specs.Periods.{multiple, cleared, clearedAt, clearedLines, tickOf}
-use Rattle.recorder.specs.Samples.{bookingOf, activeLines, bookingOn, putIn, countedOf, clockEnd, sampleOf}
+use Rattle.settings.specs.declared.Config.{Config}
+use Rattle.settings.specs.declared.Input.{Input}
+use Rattle.settings.specs.declared.Register.{Register}
+use Rattle.counting.specs.Filter.{inputAt, lineAt, nextRun, filtered, filteredAt, steppedOf}
+use Rattle.counting.specs.Units.{remainderOf, credited, creditIf, creditedAt, creditsOf}
+use Rattle.counting.specs.Bills.{registerAt, billAt, fills, billed, dueAt, fillsAt, billedAt, bookedOf}
+use Rattle.sampling.specs.Periods.{multiple, cleared, clearedAt, clearedLines, tickOf}
+use Rattle.sampling.specs.Samples.{bookingOf, activeLines, bookingOn, putIn, countedOf, clockEnd, sampleOf}
 use Rattle.recorder.specs.Clock.{setTo, setDated, setOf, closedBill, closedBillAt, resetOf}
 use Rattle.recorder.specs.Meters.{readingOf}
 use Rattle.recorder.specs.Calls.{freshState, replyTo}
 use Rattle.recorder.specs.History.{Call, sample, set as set-call, reading, reset, after, afterAll, freshStart}
 use Rattle.recorder.specs.Laws.{SoundLines, SoundBills, Sound, ReachedIsSound, ConfigStays}
-use Rattle.recorder.specs.declared.Line.{Line}
-use Rattle.recorder.specs.declared.Bill.{Bill}
-use Rattle.recorder.specs.declared.State.{State}
+use Rattle.counting.specs.declared.Line.{Line}
+use Rattle.counting.specs.declared.Bill.{Bill}
+use Rattle.sampling.specs.declared.State.{State}
 use Rattle.recorder.specs.declared.Recorder.{Recorder}
-use Rattle.recorder.proofs.Books.{not-full}
+use Rattle.counting.proofs.Full.{not-full}
 
 -- a run after the filter is at most 256
 run-held : (run : ℕ) (on : Bool) → nextRun run on ≤ 256

@@ -5,11 +5,9 @@ use lib.Dec.{eqb}
 use Rattle.laws.specs.Answers.{Answer, given, refused}
 use Rattle.laws.specs.If.{if_then_else_}
 use Rattle.laws.specs.Unique.{OneResult, told-apart}
-use Rattle.recorder.specs.Samples.{numberOf}
+use Rattle.sampling.proofs.Unique.{sample-apart}
 use Rattle.recorder.specs.Meters.{ageNumber, ageSaid}
 use Rattle.recorder.specs.Calls.{StartAnswered, startNumber, setNumber, readingNumber, Answered, RunAnswered}
-use Rattle.recorder.specs.declared.SampleAnswer.{SampleAnswer}
-use Rattle.recorder.specs.declared.SampleAnswer.the-variants.{Taken, ClockEnd, Full}
 use Rattle.recorder.specs.declared.StartAnswer.{StartAnswer}
 use Rattle.recorder.specs.declared.StartAnswer.the-variants as start
 use Rattle.recorder.specs.declared.calls.SetAnswer.{SetAnswer}
@@ -29,19 +27,7 @@ use Rattle.recorder.proofs.Recorder.reset_bills.Reads as reset-bills-re
 use Rattle.recorder.proofs.meters.age_class.Reads as age-class-reads
 use Rattle.recorder.proofs.meters.age_answer.Reads as age-answer-reads
 
--- document 01's number tells all answers to a sample apart
-pub sample-apart : (x y : SampleAnswer) → numberOf x ≡ numberOf y → x ≡ y
-sample-apart = told-apart numberOf back told
-  where
-    back : ℕ → SampleAnswer
-    back n = if eqb n 5 then ClockEnd else if eqb n 6 then Full else Taken
-
-    told : (x : SampleAnswer) → back (numberOf x) ≡ x
-    told Taken = refl
-    told ClockEnd = refl
-    told Full = refl
-
--- all answers to a clock set
+-- document 01's number tells all answers to a clock set apart
 pub set-apart : (x y : SetAnswer) → setNumber x ≡ setNumber y → x ≡ y
 set-apart = told-apart setNumber back told
   where

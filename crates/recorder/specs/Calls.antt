@@ -10,11 +10,11 @@ use Rattle.calendar.specs.Moments.{momentOf}
 use Rattle.calendar.specs.declared.Moment.{Moment}
 use Rattle.image.specs.Image.{blankConfig}
 use Rattle.image.specs.Answers.{imageAnswer, imageConfig}
-use Rattle.image.specs.declared.Config.{Config}
-use Rattle.recorder.specs.Samples.{numberOf, sampleOf, Run, samplesOf}
+use Rattle.settings.specs.declared.Config.{Config}
+use Rattle.sampling.specs.Samples.{numberOf, sampleOf, Run, samplesOf}
 use Rattle.recorder.specs.Meters.{readingOf}
 use Rattle.recorder.specs.Clock.{setOf, resetOf}
-use Rattle.recorder.specs.declared.State.{State}
+use Rattle.sampling.specs.declared.State.{State}
 use Rattle.recorder.specs.declared.Recorder.{Recorder}
 use Rattle.recorder.specs.declared.Start.{Start}
 use Rattle.recorder.specs.declared.StartAnswer.{StartAnswer}

@@ -19,15 +19,15 @@ use Rattle.tariff.specs.Weekly.{fitsAt, firstHoliday, columnOn, referenceAt, we
 use Rattle.tariff.specs.Seasons.{inSeason, seasonActive}
 use Rattle.tariff.specs.Rules.{applies, inForce, forceMap, forceOf}
 use Rattle.tariff.specs.declared.Program.{Program}
-use Rattle.image.specs.declared.Config.{Config}
-use Rattle.recorder.specs.Filter.{lineAt, accepted, filtered, filteredAt, acceptedAt, steppedOf}
-use Rattle.recorder.specs.Units.{unitsOf, remainderOf, credited, creditIf, unitsIf, creditedAt, unitsAt, creditsOf}
-use Rattle.recorder.specs.Bills.{billAt, namedPart, sumOf, sumAt, sumsOf, registerUnits, dueOf, fills, billed, dueAt, fillsAt, billedAt, bookedOf}
-use Rattle.recorder.specs.Levels.{level0At, level0, termAt, level2, inputValue, sumValue, functionValue, slotValue, slotValueAt, slotValues}
-use Rattle.recorder.specs.Periods.{multiple, cleared, clearedAt, clearedLines, closedAs, tickOf}
-use Rattle.recorder.specs.Samples.{bookingOf, activeAt, activeLines, countedOf, sampleOf, samplesOf}
+use Rattle.settings.specs.declared.Config.{Config}
+use Rattle.counting.specs.Filter.{lineAt, accepted, filtered, filteredAt, acceptedAt, steppedOf}
+use Rattle.counting.specs.Units.{unitsOf, remainderOf, credited, creditIf, unitsIf, creditedAt, unitsAt, creditsOf}
+use Rattle.counting.specs.Bills.{billAt, namedPart, sumOf, sumAt, sumsOf, registerUnits, dueOf, fills, billed, dueAt, fillsAt, billedAt, bookedOf}
+use Rattle.counting.specs.Levels.{level0At, level0, termAt, level2, inputValue, sumValue, functionValue, slotValue, slotValueAt, slotValues}
+use Rattle.sampling.specs.Periods.{multiple, cleared, clearedAt, clearedLines, closedAs, tickOf}
+use Rattle.sampling.specs.Samples.{bookingOf, activeAt, activeLines, countedOf, sampleOf, samplesOf}
 use Rattle.recorder.specs.Calls.{freshState}
-use Rattle.recorder.specs.declared.State.{State}
+use Rattle.sampling.specs.declared.State.{State}
 
 -- a tariff program: rule A in the minutes before noon, rule B after them, each day
 abbrev twoTariffs : Program

@@ -9,12 +9,12 @@ use Rattle.laws.specs.Answers.{Answer, given, refused}
 use Rattle.laws.specs.Tables.{table}
 use Rattle.calendar.specs.Moments.{momentOf}
 use Rattle.calendar.specs.declared.Moment.{Moment}
-use Rattle.image.specs.declared.Config.{Config}
-use Rattle.image.specs.declared.Register.{Register}
-use Rattle.recorder.specs.Bills.{registerAt, billAt}
-use Rattle.recorder.specs.Periods.{clearedLines, closedAs}
-use Rattle.recorder.specs.declared.Bill.{Bill}
-use Rattle.recorder.specs.declared.State.{State}
+use Rattle.settings.specs.declared.Config.{Config}
+use Rattle.settings.specs.declared.Register.{Register}
+use Rattle.counting.specs.Bills.{registerAt, billAt}
+use Rattle.sampling.specs.Periods.{clearedLines, closedAs}
+use Rattle.counting.specs.declared.Bill.{Bill}
+use Rattle.sampling.specs.declared.State.{State}
 
 -- the state set to a time: the period closes at the old time as short, 1; second and period start anew
 unfoldable pub setTo : Config → State → ℕ → State

@@ -2,7 +2,7 @@
 use mathlib.Core.List.{List, [], _∷_}
 use Prim.Native.Nat.{ℕ}
 use lib.IntN.{ℤ}
-use Rattle.image.specs.declared.Config.{Config}
+use Rattle.settings.specs.declared.Config.{Config}
 use Rattle.recorder.specs.Calls.{freshState, sampleReply, setReply, readingReply, resetReply}
 use Rattle.recorder.specs.declared.Recorder.{Recorder}
 

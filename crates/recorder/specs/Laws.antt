@@ -4,16 +4,16 @@ use mathlib.Core.List.{List}
 use Prim.Native.Nat.{ℕ, _+_, _*_, _-_, _<_, _≤_}
 use lib.ListN.{length}
 use Rattle.laws.specs.Each.{Each}
-use Rattle.image.specs.Check.{sections, Holds}
-use Rattle.image.specs.declared.Config.{Config}
-use Rattle.image.specs.declared.Input.{Input}
-use Rattle.recorder.specs.Filter.{inputAt, lineAt}
-use Rattle.recorder.specs.Units.{unitsOf, heldSum}
-use Rattle.recorder.specs.Bills.{billAt}
+use Rattle.settings.specs.Check.{sections, Holds}
+use Rattle.settings.specs.declared.Config.{Config}
+use Rattle.settings.specs.declared.Input.{Input}
+use Rattle.counting.specs.Filter.{inputAt, lineAt}
+use Rattle.counting.specs.Units.{unitsOf, heldSum}
+use Rattle.counting.specs.Bills.{billAt}
 use Rattle.recorder.specs.History.{Call, afterAll, freshStart}
-use Rattle.recorder.specs.declared.Line.{Line}
-use Rattle.recorder.specs.declared.Bill.{Bill}
-use Rattle.recorder.specs.declared.State.{State}
+use Rattle.counting.specs.declared.Line.{Line}
+use Rattle.counting.specs.declared.Bill.{Bill}
+use Rattle.sampling.specs.declared.State.{State}
 
 -- sixteen lines, each with a run of at most 256 and a remainder below its denominator
 pub record SoundLines (inputs : List Input) (lines : List Line) : Type 0 where

@@ -1,10 +1,4 @@
 -- Document 01's paragraphs on samples, impulses, units, periods, bills and serial meters.
-pub mod Filter
-pub mod Units
-pub mod Bills
-pub mod Samples
-pub mod Levels
-pub mod Periods
 pub mod Meters
 pub mod Clock
 pub mod Calls

@@ -8,12 +8,12 @@ use lib.IntN.{ℤ}
 use lib.ListN.{getD, set}
 use Rattle.laws.specs.If.{if_then_else_}
 use Rattle.laws.specs.Answers.{Answer, given, refused}
-use Rattle.image.specs.declared.Config.{Config}
+use Rattle.settings.specs.declared.Config.{Config}
 use Rattle.recorder.specs.declared.meters.Age.{Age}
 use Rattle.recorder.specs.declared.meters.Age.the-variants.{Awake, Stale, Invalid, Never}
 use Rattle.recorder.specs.declared.meters.AgeAnswer.{AgeAnswer}
 use Rattle.recorder.specs.declared.meters.AgeAnswer.the-variants.{Class, NotFitted, BadStatus}
-use Rattle.recorder.specs.declared.State.{State}
+use Rattle.sampling.specs.declared.State.{State}
 
 -- the numbers of the classes: 0 awake, 1 stale, 2 invalid, 3 never
 abbrev pub ageNumber : Age → ℕ

@@ -2,11 +2,11 @@
 use crate::Bill;
 use crate::Meter;
 use crate::State;
-use crate::clock::cleared;
-use crate::clock::close_period;
 use calendar::Dated;
 use image::Config;
 use image::Register;
+use sampling::clock::cleared;
+use sampling::clock::close_period;
 ghost use mathlib.Core.Path.{_≡_};
 ghost use Rattle.recorder.specs.Clock.{setTo, setOf, closedBill, resetOf};
 ghost use Rattle.recorder.specs.Meters.{readingOf};

@@ -1,13 +1,6 @@
 // The recorder: what is fixed, what moves, and the calls that move it.
-mod bills;
-mod booking;
 mod calls;
-mod clock;
-mod filter;
-mod levels;
 mod meters;
-mod samples;
-mod units;
 
 use calendar::Dated;
 pub use calls::ReadingAnswer;
@@ -15,65 +8,22 @@ pub use calls::SetAnswer;
 use calls::read;
 use calls::reset;
 use calls::set;
+pub use counting::Bill;
+pub use counting::Line;
 use image::Config;
 use image::ImageAnswer;
 pub use meters::Age;
 pub use meters::AgeAnswer;
 pub use meters::age_answer;
 pub use meters::age_class;
-use samples::take;
+pub use sampling::Meter;
+pub use sampling::Period;
+pub use sampling::SampleAnswer;
+pub use sampling::State;
+use sampling::samples::take;
 ghost use mathlib.Core.Path.{_≡_};
 ghost use Rattle.calendar.specs.Moments.{momentOf};
 ghost use Rattle.recorder.specs.Calls.{freshState, blankRecorder, startSaid, refusedStart, startDated, startReply, sampledSaid, sampleReply, runSaid, samplesReply, clockSetSaid, setReply, meterReadSaid, readingReply, resetReply};
-
-// One line: its run of active samples, the impulses rejected, the remainder of its input, its units of the running period (level 0).
-pub struct Line {
-    pub run: u32,
-    pub rejected: u16,
-    pub remainder: u16,
-    pub units: u32,
-}
-
-// One bill register: the open amount, and the last closed one with its time.
-pub struct Bill {
-    pub amount: u32,
-    pub closed: u32,
-    pub stamp: u32,
-    pub reset: bool,
-}
-
-// One serial meter: its last reading, if there was one.
-pub struct Meter {
-    pub read: bool,
-    pub stamp: u32,
-    pub value: i32,
-    pub status: u8,
-    pub seq: u8,
-}
-
-// The last closed period, level 9: 0 none, 1 short, 2 whole; its closing time; the values of the 16 slots.
-pub struct Period {
-    pub state: u8,
-    pub stamp: u32,
-    pub values: [i64; 16],
-}
-
-// What moves: the clock, the samples of its second, the first second of the running period, lines, bills, meters, the last closed period.
-pub struct State {
-    pub clock: u32,
-    pub samples: u8,
-    pub first: u32,
-    pub lines: [Line; 16],
-    pub bills: [Bill; 16],
-    pub meters: [Meter; 32],
-    pub closed: Period,
-}
-
-pub enum SampleAnswer {
-    Taken,
-    ClockEnd,
-    Full,
-}
 
 // What is fixed from the start on, and what moves.
 pub struct Recorder {

@@ -21,7 +21,7 @@ use Rattle.laws.specs.Total.{total, total-cong, total-plus}
 use Rattle.laws.specs.Counts.{ones-mask}
 use Rattle.laws.specs.SignedTotal.{totalℤ, abs-add, abs-fits}
 use Rattle.recorder.specs.Meters.{classOf}
-use Rattle.recorder.specs.declared.Meter.{Meter}
+use Rattle.sampling.specs.declared.Meter.{Meter}
 use Rattle.registers.specs.Fleet.{meterAt, meterClass, classAt, hasClass, hasAny, awakeValue, awakeSum, classesOf, fleetOf}
 use Rattle.registers.specs.Laws.{OnesAreCounts, FittedCounted, CountsAddUp, SumExact}
 

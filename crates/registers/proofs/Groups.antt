@@ -11,7 +11,7 @@ use lib.Seq.{take-append-seam}
 use Rattle.laws.specs.Answers.{Answer, given, refused}
 use Rattle.laws.specs.Each.{Each}
 use Rattle.laws.specs.Tests.{by-test}
-use Rattle.image.specs.declared.Config.{Config}
+use Rattle.settings.specs.declared.Config.{Config}
 use Rattle.recorder.specs.declared.Recorder.{Recorder}
 use Rattle.registers.specs.Contents.{padded}
 use Rattle.registers.specs.Registers.{Group, lookUp, fittedIn, heldBy, Shape, shapeOf, refusal, reading, replyOf}

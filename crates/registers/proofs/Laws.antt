@@ -14,8 +14,8 @@ use Rattle.laws.specs.Answers.{Answer, given, refused}
 use Rattle.laws.specs.Bytes.{bytesOf}
 use Rattle.recorder.specs.Meters.{classOf}
 use Rattle.recorder.specs.declared.Recorder.{Recorder}
-use Rattle.recorder.specs.declared.Bill.{Bill}
-use Rattle.recorder.specs.declared.Meter.{Meter}
+use Rattle.counting.specs.declared.Bill.{Bill}
+use Rattle.sampling.specs.declared.Meter.{Meter}
 use Rattle.registers.specs.Contents.{statusShown, serialBytes, meterBytes, mapBytes, resultBytes, dailyBytes, weeklyBytes, level9Bytes, slotBytes, billBytes, inputBytes, fleetBytes, clockBytes}
 use Rattle.registers.specs.Fleet.{meterAt, meterClass, classAt}
 use Rattle.registers.specs.Registers.{Group, groups, lookUp, groupOf, heldBy, Reply, refusal, reading, replyOf, registerReply}

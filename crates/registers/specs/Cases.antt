@@ -8,7 +8,7 @@ use lib.ListN.{getD, replicate}
 use Rattle.laws.specs.Bytes.{bytesOf}
 use Rattle.laws.specs.Each.{Each}
 use Rattle.image.specs.Image.{blankProgram}
-use Rattle.image.specs.declared.Config.{Config}
+use Rattle.settings.specs.declared.Config.{Config}
 use Rattle.recorder.specs.Meters.{classOf}
 use Rattle.recorder.specs.declared.Recorder.{Recorder}
 use Rattle.registers.specs.Fleet.{meterClass, classAt}

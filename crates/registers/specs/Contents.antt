@@ -17,11 +17,11 @@ use Rattle.tariff.specs.Daily.{dailyActive}
 use Rattle.tariff.specs.Weekly.{weeklyActive}
 use Rattle.tariff.specs.Rules.{forceMapAt}
 use Rattle.tariff.specs.declared.Program.{Program}
-use Rattle.image.specs.declared.Config.{Config}
-use Rattle.recorder.specs.declared.Bill.{Bill}
-use Rattle.recorder.specs.declared.Line.{Line}
-use Rattle.recorder.specs.declared.Meter.{Meter}
-use Rattle.recorder.specs.declared.State.{State}
+use Rattle.settings.specs.declared.Config.{Config}
+use Rattle.counting.specs.declared.Bill.{Bill}
+use Rattle.counting.specs.declared.Line.{Line}
+use Rattle.sampling.specs.declared.Meter.{Meter}
+use Rattle.sampling.specs.declared.State.{State}
 use Rattle.registers.specs.Fleet.{meterAt, classAt}
 use Rattle.registers.specs.declared.fleet.Fleet.{Fleet}
 

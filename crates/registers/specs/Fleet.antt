@@ -10,7 +10,7 @@ use Rattle.laws.specs.Counts.{countOf}
 use Rattle.laws.specs.SignedTotal.{totalℤ}
 use Rattle.laws.specs.Tables.{table}
 use Rattle.recorder.specs.Meters.{classOf}
-use Rattle.recorder.specs.declared.Meter.{Meter}
+use Rattle.sampling.specs.declared.Meter.{Meter}
 use Rattle.recorder.specs.declared.Recorder.{Recorder}
 use Rattle.registers.specs.declared.fleet.Fleet.{Fleet}
 

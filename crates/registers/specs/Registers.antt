@@ -6,10 +6,10 @@ use lib.Dec.{leb, eqb}
 use lib.ListN.{length, drop, getD}
 use Rattle.laws.specs.If.{if_then_else_}
 use Rattle.laws.specs.Answers.{Answer, given, refused}
-use Rattle.image.specs.Rules.{noInput, noSlot, noRegister}
-use Rattle.image.specs.declared.Config.{Config}
-use Rattle.recorder.specs.Filter.{lineAt}
-use Rattle.recorder.specs.Bills.{billAt}
+use Rattle.settings.specs.Rules.{noInput, noSlot, noRegister}
+use Rattle.settings.specs.declared.Config.{Config}
+use Rattle.counting.specs.Filter.{lineAt}
+use Rattle.counting.specs.Bills.{billAt}
 use Rattle.recorder.specs.declared.Recorder.{Recorder}
 use Rattle.registers.specs.Fleet.{fleetOf}
 use Rattle.registers.specs.Contents.{meterBytes, mapBytes, dailyBytes, weeklyBytes, slotBytes, billBytes, inputBytes, fleetBytes, clockBytes}

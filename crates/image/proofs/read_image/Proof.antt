@@ -4,7 +4,7 @@ use mathlib.Core.Path.{_≡_, refl, sym, ap, _∙_}
 use borrow.Author.Tests.{not-true, not-false}
 use borrow.Author.Needs.{needs}
 use Rattle.image.specs.Image.{decode}
-use Rattle.image.specs.Check.{checked}
+use Rattle.settings.specs.Check.{checked}
 use Rattle.image.specs.Answers.{marked, verdictSaid, imageAnswer}
 use Rattle.image.proofs.Answers.{answer-length, answer-mark, answer-version, answer-checked, read-refused, read-accepted}
 use Rattle.image.proofs.read_image.Statement.{statement}

@@ -17,7 +17,7 @@ use Rattle.image.specs.declared.WriteAnswer.{WriteAnswer}
 use Rattle.image.specs.declared.WriteAnswer.the-variants.{Written, Value, NoRoom}
 use Rattle.tariff.proofs.Window as window
 use Rattle.tariff.proofs.Holiday as holiday
-use Rattle.image.proofs.Input as input
+use Rattle.settings.proofs.Input as input
 use Rattle.image.proofs.WriteAnswer as write-answer
 use Rattle.image.proofs.Trips.{value-back, comes-back}
 use Rattle.image.proofs.write_then_read.Statement.{statement}

@@ -3,7 +3,7 @@ use Prim.Native.Nat.{_-_}
 use borrow.Author.Needs.{needs}
 use Rattle.laws.specs.Runs.{Stored, stored-none, stored-more, stored-all}
 use Rattle.image.specs.Entries.{holidayBytes}
-use Rattle.image.specs.Rules.{noHoliday}
+use Rattle.settings.specs.Rules.{noHoliday}
 use Rattle.image.proofs.Entries.{holiday}
 use Rattle.image.proofs.write.holidays.Statement.{statement}
 use Rattle.image.proofs.write.holidays.Tie as tie

@@ -3,7 +3,7 @@ use Prim.Native.Nat.{_-_}
 use borrow.Author.Needs.{needs}
 use Rattle.laws.specs.Runs.{Stored, stored-none, stored-more, stored-all}
 use Rattle.image.specs.Entries.{inputBytes}
-use Rattle.image.specs.Rules.{noInput}
+use Rattle.settings.specs.Rules.{noInput}
 use Rattle.image.proofs.Entries.{input}
 use Rattle.image.proofs.write.inputs.Statement.{statement}
 use Rattle.image.proofs.write.inputs.Tie as tie

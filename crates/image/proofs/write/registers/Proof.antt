@@ -3,7 +3,7 @@ use Prim.Native.Nat.{_-_}
 use borrow.Author.Needs.{needs}
 use Rattle.laws.specs.Runs.{Stored, stored-none, stored-more, stored-all}
 use Rattle.image.specs.Entries.{registerBytes}
-use Rattle.image.specs.Rules.{noRegister}
+use Rattle.settings.specs.Rules.{noRegister}
 use Rattle.image.proofs.Entries.{register}
 use Rattle.image.proofs.write.registers.Statement.{statement}
 use Rattle.image.proofs.write.registers.Tie as tie

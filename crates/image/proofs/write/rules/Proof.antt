@@ -3,7 +3,7 @@ use Prim.Native.Nat.{_-_}
 use borrow.Author.Needs.{needs}
 use Rattle.laws.specs.Runs.{Stored, stored-none, stored-more, stored-all}
 use Rattle.image.specs.Entries.{ruleBytes}
-use Rattle.image.specs.Rules.{noRule}
+use Rattle.settings.specs.Rules.{noRule}
 use Rattle.image.proofs.Entries.{rule}
 use Rattle.image.proofs.write.rules.Statement.{statement}
 use Rattle.image.proofs.write.rules.Tie as tie

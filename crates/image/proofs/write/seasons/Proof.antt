@@ -3,7 +3,7 @@ use Prim.Native.Nat.{_-_}
 use borrow.Author.Needs.{needs}
 use Rattle.laws.specs.Runs.{Stored, stored-none, stored-more, stored-all}
 use Rattle.image.specs.Entries.{seasonBytes}
-use Rattle.image.specs.Rules.{noSeason}
+use Rattle.settings.specs.Rules.{noSeason}
 use Rattle.image.proofs.Entries.{season}
 use Rattle.image.proofs.write.seasons.Statement.{statement}
 use Rattle.image.proofs.write.seasons.Tie as tie

@@ -3,7 +3,7 @@ use Prim.Native.Nat.{_-_}
 use borrow.Author.Needs.{needs}
 use Rattle.laws.specs.Runs.{Stored, stored-none, stored-more, stored-all}
 use Rattle.image.specs.Entries.{slotBytes}
-use Rattle.image.specs.Rules.{noSlot}
+use Rattle.settings.specs.Rules.{noSlot}
 use Rattle.image.proofs.Entries.{slot}
 use Rattle.image.proofs.write.slots.Statement.{statement}
 use Rattle.image.proofs.write.slots.Tie as tie

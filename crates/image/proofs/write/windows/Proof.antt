@@ -3,7 +3,7 @@ use Prim.Native.Nat.{_-_}
 use borrow.Author.Needs.{needs}
 use Rattle.laws.specs.Runs.{Stored, stored-none, stored-more, stored-all}
 use Rattle.image.specs.Entries.{windowBytes}
-use Rattle.image.specs.Rules.{noWindow}
+use Rattle.settings.specs.Rules.{noWindow}
 use Rattle.image.proofs.Entries.{window}
 use Rattle.image.proofs.write.windows.Statement.{statement}
 use Rattle.image.proofs.write.windows.Tie as tie

@@ -2,7 +2,7 @@
 use mathlib.Core.Path.{ap}
 use borrow.Author.Needs.{needs}
 use Rattle.recorder.specs.Calls.{beside}
-use Rattle.recorder.proofs.Turns.{one-sample}
+use Rattle.recorder.proofs.Single.{one-sample}
 use Rattle.recorder.proofs.Recorder.sample.Statement.{statement}
 use Rattle.recorder.proofs.Recorder.sample.Tie as tie
 

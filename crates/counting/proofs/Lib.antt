@@ -1,0 +1,4 @@
+-- Laws of the definitions that the proofs of the functions cite, and that no second result fits.
+pub mod Full
+pub mod Signed
+pub mod Unique

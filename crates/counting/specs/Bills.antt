@@ -1,0 +1,95 @@
+-- "The units go to level 0 of the input, each sum that names it, and each bill register on such a sum that has no rule or whose rule is in force at the clock's present
+-- second." And: "6 FULL: the sample would take a bill register past 999,999,999."
+use mathlib.Core.Bool.{Bool, false, not, _&&_, _||_}
+use mathlib.Core.List.{List}
+use Prim.Native.Nat.{ℕ, _+_}
+use lib.Dec.{ltb, eqb}
+use lib.ListN.{getD}
+use Rattle.laws.specs.If.{if_then_else_}
+use Rattle.laws.specs.Any.{any}
+use Rattle.laws.specs.Total.{total}
+use Rattle.laws.specs.Masks.{bitAt}
+use Rattle.laws.specs.Tables.{table}
+use Rattle.settings.specs.declared.Register.{Register}
+use Rattle.counting.specs.declared.Bill.{Bill}
+use Rattle.counting.specs.declared.bills.Booked.{Booked}
+
+-- bill register j of a configuration
+abbrev pub registerAt : List Register → ℕ → Register
+registerAt registers j = getD registers j (record { sum = 0; rule = 0 })
+
+-- bill j of a state
+abbrev pub billAt : List Bill → ℕ → Bill
+billAt bills j = getD bills j (record { amount = 0; closed = 0; stamp = 0; reset = false })
+
+-- the number at place i of a list
+abbrev pub unitAt : List ℕ → ℕ → ℕ
+unitAt units i = getD units i 0
+
+-- the units of an input that is named, none of another
+abbrev pub partOf : Bool → ℕ → ℕ
+partOf on units = if on then units else 0
+
+-- what input i adds to a sum
+unfoldable pub namedPart : ℕ → (ℕ → ℕ) → ℕ → ℕ
+namedPart sum units i = partOf (bitAt sum i) (units i)
+
+-- the units of the inputs that a sum names: bit i names input i
+unfoldable pub sumOf : ℕ → (ℕ → ℕ) → ℕ
+sumOf sum units = total 16 (namedPart sum units)
+
+-- the units of sum k
+unfoldable pub sumAt : List ℕ → List ℕ → ℕ → ℕ
+sumAt sums units k = sumOf (getD sums k 0) (unitAt units)
+
+-- the units of all 8 sums
+unfoldable pub sumsOf : List ℕ → List ℕ → List ℕ
+sumsOf sums units = table 8 (sumAt sums units)
+
+-- the units of a register's sum; a register that is not in use has no sum
+unfoldable pub registerUnits : Register → List ℕ → ℕ
+registerUnits register sums = if ltb (register .sum) 8 then getD sums (register .sum) 0 else 0
+
+-- a register has no rule, or its rule is in force
+abbrev pub feeds : Register → ℕ → Bool
+feeds register map = eqb (register .rule) 255 || bitAt map (register .rule)
+
+-- the units that a sample books to a register
+unfoldable pub dueOf : Register → ℕ → List ℕ → ℕ
+dueOf register map sums = if feeds register map then registerUnits register sums else 0
+
+-- the units would take the register past 999,999,999; one that gets none is not asked
+unfoldable pub fills : Bill → ℕ → Bool
+fills bill due = ltb 0 due && ltb 999_999_999 (bill .amount + due)
+
+-- the register with the units booked; a full one is left as it is, since the whole sample is refused
+unfoldable pub billed : Bill → ℕ → Bill
+billed bill due =
+    if fills bill due then bill
+    else record { amount = bill .amount + due; closed = bill .closed; stamp = bill .stamp; reset = bill .reset }
+
+-- the units that a sample books to register j
+unfoldable pub dueAt : List Register → ℕ → List ℕ → ℕ → ℕ
+dueAt registers map sums j = dueOf (registerAt registers j) map sums
+
+-- register j would be full
+unfoldable pub fillsAt : List Register → List Bill → ℕ → List ℕ → ℕ → Bool
+fillsAt registers bills map sums j = fills (billAt bills j) (dueAt registers map sums j)
+
+-- bill j with its units booked
+unfoldable pub billedAt : List Register → List Bill → ℕ → List ℕ → ℕ → Bill
+billedAt registers bills map sums j = billed (billAt bills j) (dueAt registers map sums j)
+
+-- FULL in any register, and all bills with their units booked
+unfoldable pub bookedOf : List Register → List Bill → ℕ → List ℕ → Booked
+bookedOf registers bills map sums =
+    record { full = any 16 (fillsAt registers bills map sums); bills = table 16 (billedAt registers bills map sums) }
+
+-- register j has a rule, and its sum has units
+unfoldable pub wantsAt : List Register → List ℕ → ℕ → Bool
+wantsAt registers sums j =
+    not (eqb (registerAt registers j .rule) 255) && ltb 0 (registerUnits (registerAt registers j) sums)
+
+-- some register has a rule and units
+unfoldable pub wantsMap : List Register → List ℕ → Bool
+wantsMap registers sums = any 16 (wantsAt registers sums)

@@ -1,7 +1,0 @@
--- `image::rules::input` meets its contract: the code's test is the definition's. By `refl`, so that a wrong test is named where it differs.
-use mathlib.Core.Path.{refl}
-use Rattle.image.proofs.rules.input.Statement.{statement}
-use Rattle.image.proofs.rules.input.Tie as tie
-
-pub input-spec : {M : Type 1} → statement M
-input-spec = tie.close (tie.spec (λ c. refl))

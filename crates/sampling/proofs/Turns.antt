@@ -1,0 +1,261 @@
+-- One turn of a run of samples: which lines are active, and what each way through a sample does.
+use mathlib.Core.Path.{_≡_, refl, sym, ap, _∙_}
+use mathlib.Core.Bool.{Bool, true, false, not, _&&_, _||_, and-true, and-false}
+use mathlib.Core.List.{List, [], _∷_}
+use Prim.Native.Nat.{ℕ, suc, _+_, _^_, _<_, _≤_}
+use native.Mathlib.Nat.{zero-add, add-zero, lt-of-le-of-lt, le-antisymm}
+use native.Mathlib.Numerals.{add-one, one-add}
+use native.Mathlib.Omega.{arith}
+use lib.Dec.{ltb, leb, eqb}
+use lib.Bits.{bitAnd, bitOr, bitXor, and-le-r, or-lt}
+use lib.ListN.{length, getD, drop}
+use lib.Seq.{drop-cons, drop-length}
+use borrow.Author.Tests.{lt-ltb, ltb-true, ltb-false, lt-leb, le-leb, eqb-true, eqb-false, ne-eqb}
+use Rattle.laws.specs.If.{if_then_else_}
+use Rattle.laws.specs.Tests.{by-test, and-left, and-right}
+use Rattle.laws.specs.Answers.{Answer, given, refused}
+use Rattle.laws.specs.Masks.{maskOf, bitAt, bit-at, bit-zero, mask-below, mask-cong, mask-ext, mask-zero}
+use Rattle.laws.specs.BitTests.{either, bit-and, bit-or, bit-xor}
+use Rattle.laws.specs.Tables.{table, table-at, table-cong, table-self, length-table}
+use Rattle.settings.specs.declared.Config.{Config}
+use Rattle.settings.specs.declared.Input.{Input}
+use Rattle.counting.specs.Filter.{inputAt, lineAt, active, nextRun, ends, fitting, oneMore, accepted, filtered, filteredAt, acceptedAt, steppedOf, kindAt, kindMask, runningAt, runningLines}
+use Rattle.counting.specs.Units.{credited, creditIf, creditedAt, creditsOf}
+use Rattle.counting.specs.Bills.{bookedOf}
+use Rattle.sampling.specs.Periods.{multiple, cleared, clearedAt, clearedLines, tickOf}
+use Rattle.sampling.specs.Samples.{bookingOf, activeAt, activeLines, bookingOn, putIn, countedOf, clockEnd, sampleOf, Run, onward, samplesOf}
+use Rattle.counting.specs.declared.Line.{Line}
+use Rattle.counting.specs.declared.Bill.{Bill}
+use Rattle.sampling.specs.declared.State.{State}
+use Rattle.sampling.specs.declared.booking.Booking.{Booking}
+use Rattle.sampling.proofs.Books.{no-impulse}
+
+-- the test of an active line, by the two masks of kinds
+by-kind : (kind : ℕ) (b : Bool) → (either b (eqb kind 2) && (eqb kind 1 || eqb kind 2)) ≡ active kind b
+by-kind kind b =
+    by-test (eqb kind 1)
+    (λ e. rw (eqb-true kind 1 e) (at-one b))
+    (λ e. by-test (eqb kind 2) (λ f. rw (e, f) (at-two b)) (λ f. rw (e, f) (at-none b)))
+  where
+    at-one : (b : Bool) → (either b false && true) ≡ (b || false)
+    at-one true = refl
+    at-one false = refl
+
+    at-two : (b : Bool) → (either b true && true) ≡ not b
+    at-two true = refl
+    at-two false = refl
+
+    at-none : (b : Bool) → (either b false && false) ≡ false
+    at-none true = refl
+    at-none false = refl
+
+-- bit i of the inputs of a kind
+kind-bit : (inputs : List Input) (kind i : ℕ) → i < 16 → bitAt (kindMask inputs kind) i ≡ eqb (inputAt inputs i .kind) kind
+unfolding kindMask
+kind-bit inputs kind i l = bit-at 16 (kindAt inputs kind) i ∙ rw (lt-ltb i 16 l)
+
+-- a mask of kinds has 16 bits
+kind-below : (inputs : List Input) (kind : ℕ) → kindMask inputs kind < 2 ^ 16
+unfolding kindMask
+kind-below inputs kind = mask-below 16 (kindAt inputs kind)
+
+-- the code's mask of active lines is the definition's
+pub active-mask : (inputs : List Input) (bits s1a s1r fitted : ℕ) → s1a ≡ kindMask inputs 1 → s1r ≡ kindMask inputs 2 → fitted ≡ bitOr s1a s1r
+    → bitAnd (bitXor bits s1r) fitted ≡ activeLines inputs bits
+unfolding activeLines activeAt
+active-mask inputs bits s1a s1r fitted a r f =
+    let below : fitted < 2 ^ 16 = rw (f, a, r) (or-lt 16 (kindMask inputs 1) (kindMask inputs 2) (kind-below inputs 1) (kind-below inputs 2)) in
+    mask-ext 16 _ (activeAt inputs bits) (lt-of-le-of-lt (and-le-r (bitXor bits s1r) fitted) below)
+    (λ i l.
+    rw (bit-and (bitXor bits s1r) fitted i, bit-xor bits s1r i, f, bit-or s1a s1r i, a, r, kind-bit inputs 1 i l, kind-bit inputs 2 i l)
+    (by-kind (inputAt inputs i .kind) (bitAt bits i)))
+
+-- a line that is not active and has no run passes the filter as it is
+filter-idle : (input : Input) (line : Line) → line .run ≡ 0 → filtered input line false ≡ line
+unfolding filtered
+filter-idle input line e =
+    let same : oneMore (line .rejected) (ends line false && not (fitting input line)) ≡ line .rejected = rw e in
+    (λ i. record { run = sym e i; rejected = same i; remainder = line .remainder; units = line .units })
+
+-- and brings no impulse
+accept-idle : (input : Input) (line : Line) → line .run ≡ 0 → accepted input line false ≡ false
+unfolding accepted
+accept-idle input line e = rw e
+
+-- where no line has a run, none has
+no-run : (lines : List Line) → runningLines lines ≡ 0 → (i : ℕ) → i < 16 → lineAt lines i .run ≡ 0
+unfolding runningLines
+no-run lines e i l = let none = ltb-false 0 (lineAt lines i .run) (mask-zero 16 (runningAt lines) e i l) in omega arith
+
+-- a booking of nothing
+abbrev quietly : List Bill → List Line → Booking
+quietly bills lines = record { full = false; lines = lines; bills = bills }
+
+module _ (c : Config) (clock : ℕ) (lines : List Line) (bills : List Bill) (e : runningLines lines ≡ 0) where
+  -- with no line active and no run there is no impulse
+  idle-impulses : 0 ≡ steppedOf (c .inputs) lines 0 .impulses
+  unfolding steppedOf acceptedAt
+  idle-impulses =
+      mask-ext 16 0 (acceptedAt (c .inputs) lines 0) (omega arith)
+      (λ i l. rw (bit-zero i) (sym (accept-idle (inputAt (c .inputs) i) (lineAt lines i) (no-run lines e i l))))
+
+  -- and the filter changes no line
+  idle-lines : length lines ≡ 16 → steppedOf (c .inputs) lines 0 .lines ≡ lines
+  unfolding steppedOf filteredAt
+  idle-lines size =
+      table-cong 16 (filteredAt (c .inputs) lines 0) (lineAt lines)
+      (λ i l. rw (bit-zero i) (filter-idle (inputAt (c .inputs) i) (lineAt lines i) (no-run lines e i l)))
+      ∙ table-self 16 lines _ size
+
+  -- so the sample books nothing and changes no line
+  pub idle-booking : length lines ≡ 16 → length bills ≡ 16 → bookingOf c clock lines bills 0 ≡ record { full = false; lines = lines; bills = bills }
+  idle-booking size sizes =
+      sym (no-impulse c clock lines bills 0 idle-impulses sizes)
+      ∙ ap (quietly bills) (idle-lines size)
+
+-- an active line has a run after the filter, and no other has
+run-after : (run : ℕ) (on : Bool) → ltb 0 (nextRun run on) ≡ on
+run-after run true = by-test (ltb run 256) (λ e. rw e (lt-ltb 0 (run + 1) (omega arith))) (λ e. rw e)
+run-after run false = refl
+
+-- an impulse leaves the run
+run-credited : (input : Input) (line : Line) (on : Bool) → creditIf input line on .run ≡ line .run
+unfolding creditIf credited
+run-credited input line true = refl
+run-credited input line false = refl
+
+-- line i has a run after a sample if it is active
+run-at : (inputs : List Input) (lines : List Line) (bits impulses i : ℕ) → i < 16
+    → ltb 0 (creditedAt inputs (table 16 (filteredAt inputs lines (maskOf 16 (activeAt inputs bits)))) impulses i .run) ≡ activeAt inputs bits i
+unfolding creditedAt filteredAt filtered
+run-at inputs lines bits impulses i l =
+    let mask = maskOf 16 (activeAt inputs bits) in
+    let stepped = table 16 (filteredAt inputs lines mask) in
+    rw (run-credited (inputAt inputs i) (lineAt stepped i) (bitAt impulses i), table-at 16 (filteredAt inputs lines mask) i _ l)
+    (run-after (lineAt lines i .run) (bitAt mask i) ∙ (bit-at 16 (activeAt inputs bits) i ∙ rw (lt-ltb i 16 l)))
+
+-- the lines with a run after a sample are the active ones
+pub runs-after : (c : Config) (clock : ℕ) (lines : List Line) (bills : List Bill) (bits : ℕ)
+    → runningLines (bookingOf c clock lines bills (activeLines (c .inputs) bits) .lines) ≡ activeLines (c .inputs) bits
+unfolding runningLines bookingOf creditsOf steppedOf activeLines
+runs-after c clock lines bills bits =
+    let mask = maskOf 16 (activeAt (c .inputs) bits) in
+    let impulses = maskOf 16 (acceptedAt (c .inputs) lines mask) in
+    let stepped = table 16 (filteredAt (c .inputs) lines mask) in
+    mask-cong 16 (runningAt (table 16 (creditedAt (c .inputs) stepped impulses))) (activeAt (c .inputs) bits)
+    (λ i l. rw (table-at 16 (creditedAt (c .inputs) stepped impulses) i _ l) (run-at (c .inputs) lines bits impulses i l))
+
+-- the step leaves the runs
+pub runs-ticked : (c : Config) (s : State) → runningLines (tickOf c s .lines) ≡ runningLines (s .lines)
+unfolding tickOf runningLines clearedLines clearedAt cleared
+runs-ticked c s =
+    by-test (multiple (c .period) (s .clock + 1))
+    (λ e. rw e (mask-cong 16 (runningAt (table 16 (clearedAt (s .lines)))) (runningAt (s .lines)) (λ i l. rw (table-at 16 (clearedAt (s .lines)) i _ l))))
+    (λ e. rw e)
+
+-- the step makes a new second with no samples, and leaves the bills
+pub ticked : (c : Config) (s : State) → putIn (tickOf c s) (tickOf c s .clock) 0 (tickOf c s .lines) (s .bills) ≡ tickOf c s
+unfolding tickOf
+ticked c s = by-test (multiple (c .period) (s .clock + 1)) (λ e. rw e) (λ e. rw e)
+
+-- the samples of a run that went before, counted in
+abbrev pub later : ℕ → Run → Run
+later k r = record { taken = k + r .taken; number = r .number; state = r .state }
+
+module _ (c : Config) (start s : State) (bits : List ℕ) (k : ℕ) (so-far : samplesOf c start bits ≡ later k (samplesOf c s (drop k bits))) where
+  -- the next sample was taken
+  pub run-on : (next : State) → k < length bits → sampleOf c s (getD bits k 0) ≡ given next
+      → samplesOf c start bits ≡ later (k + 1) (samplesOf c next (drop (k + 1) bits))
+  unfolding samplesOf
+  run-on next h g =
+      let r = samplesOf c next (drop (suc k) bits) in
+      let count : k + suc (r .taken) ≡ suc k + r .taken = omega arith in
+      so-far ∙ rw (add-one k, drop-cons bits k 0 h, g) (λ i. record { taken = count i; number = r .number; state = r .state })
+
+  -- the next sample was refused
+  pub run-refused : (n offset : ℕ) → k < length bits → sampleOf c s (getD bits k 0) ≡ refused n offset
+      → samplesOf c start bits ≡ record { taken = k; number = n; state = s }
+  unfolding samplesOf
+  run-refused n offset h g = so-far ∙ rw (drop-cons bits k 0 h, g, add-zero)
+
+  -- there is no next sample
+  pub run-done : k ≤ length bits → length bits ≤ k → samplesOf c start bits ≡ record { taken = k; number = 0; state = s }
+  unfolding samplesOf
+  run-done l g = let e : k ≡ length bits = le-antisymm l g in so-far ∙ rw (e, drop-length bits, add-zero)
+
+module _ (c : Config) (rest : State) (clock count : ℕ) (lines : List Line) (bills : List Bill) (bits : ℕ) where
+  -- a sample with no line active and no run to end only counts
+  pub sample-idle : count < 99 → 0 ≡ activeLines (c .inputs) bits → runningLines lines ≡ 0 → length lines ≡ 16 → length bills ≡ 16
+      → sampleOf c (putIn rest clock count lines bills) bits ≡ given (putIn rest clock (count + 1) lines bills)
+  unfolding sampleOf countedOf
+  sample-idle h a r size sizes = rw (lt-leb 99 count h, and-false, ← a, idle-booking c clock lines bills r size sizes)
+
+  -- the hundredth sample in the last second is refused
+  pub sample-end : (eqb clock 4_294_967_295 && leb 99 count) ≡ true → sampleOf c (putIn rest clock count lines bills) bits ≡ refused 5 0
+  unfolding sampleOf
+  sample-end e = rw e
+
+  module _ (b : Booking) (mask : ℕ) (on : mask ≡ activeLines (c .inputs) bits) (booked : b ≡ bookingOf c clock lines bills mask) where
+    -- a sample that would fill a register is refused
+    pub sample-full : (eqb clock 4_294_967_295 && leb 99 count) ≡ false → b .full ≡ true
+        → sampleOf c (putIn rest clock count lines bills) bits ≡ refused 6 0
+    unfolding sampleOf
+    sample-full e f = rw (e, ← on, ← booked, f)
+
+    -- another is booked and counted
+    pub sample-counted : count < 99 → b .full ≡ false
+        → sampleOf c (putIn rest clock count lines bills) bits ≡ given (putIn rest clock (count + 1) (b .lines) (b .bills))
+    unfolding sampleOf countedOf
+    sample-counted h f = rw (lt-leb 99 count h, and-false, ← on, ← booked, f)
+
+    -- and after the hundredth the clock steps
+    pub sample-ticked : (eqb clock 4_294_967_295 && leb 99 count) ≡ false → 99 ≤ count → b .full ≡ false
+        → sampleOf c (putIn rest clock count lines bills) bits ≡ given (tickOf c (putIn rest clock count (b .lines) (b .bills)))
+    unfolding sampleOf countedOf
+    sample-ticked e h f = rw (e, ← on, ← booked, f, le-leb 99 count h)
+
+    -- the active lines are those with a run after the sample
+    pub running-after : mask ≡ runningLines (b .lines)
+    running-after = rw (booked, on) (sym (runs-after c clock lines bills bits))
+
+    -- there are 16 lines after it
+    pub lines-after : length (b .lines) ≡ 16
+    unfolding bookingOf creditsOf
+    lines-after = rw booked (length-table 16 _)
+
+    -- and 16 bills
+    pub bills-after : length (b .bills) ≡ 16
+    unfolding bookingOf bookedOf
+    bills-after = rw booked (length-table 16 _)
+
+module _ (c : Config) (s t : State) (step : t ≡ tickOf c s) where
+  -- a state after the step, put together from its parts
+  pub ticked-parts : putIn t (t .clock) 0 (t .lines) (s .bills) ≡ tickOf c s
+  ticked-parts = rw step (ticked c s)
+
+  -- the step leaves the runs
+  pub ticked-runs : runningLines (s .lines) ≡ runningLines (t .lines)
+  ticked-runs = rw step (sym (runs-ticked c s))
+
+  -- and 16 lines
+  pub ticked-lines : length (s .lines) ≡ 16 → length (t .lines) ≡ 16
+  unfolding tickOf clearedLines
+  ticked-lines h = rw step (by-test (multiple (c .period) (s .clock + 1)) (λ e. rw e (length-table 16 _)) (λ e. rw e h))
+
+  -- the clock is one second on
+  pub ticked-clock : t .clock ≡ s .clock + 1
+  unfolding tickOf
+  ticked-clock = rw step (by-test (multiple (c .period) (s .clock + 1)) (λ e. rw e) (λ e. rw e))
+
+-- where the second is full and the clock not at its end, it can step
+pub not-at-end : (clock count : ℕ) → (eqb clock 4_294_967_295 && leb 99 count) ≡ false → 99 ≤ count → clock ≤ 4_294_967_295 → clock < 4_294_967_295
+not-at-end clock count e h l = let n = eqb-false clock 4_294_967_295 (sym (and-true _) ∙ rw (le-leb 99 count h) at e) in omega arith
+
+-- the code's test of an idle sample, in its parts
+pub idle-test : (count mask running : ℕ) → (ltb count 99 && (eqb mask 0 && eqb running 0)) ≡ true → (count < 99) × (mask ≡ 0) × (running ≡ 0)
+idle-test count mask running e =
+    let idle = and-right (ltb count 99) (eqb mask 0 && eqb running 0) e in (
+      ltb-true count 99 (and-left (ltb count 99) _ e),
+      eqb-true mask 0 (and-left (eqb mask 0) _ idle),
+      eqb-true running 0 (and-right (eqb mask 0) _ idle),
+    )

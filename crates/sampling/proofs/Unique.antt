@@ -1,0 +1,38 @@
+-- No second result fits the contract of a public function of the sampling.
+use mathlib.Core.Path.{_≡_, refl, sym, ap, _∙_}
+use Prim.Native.Nat.{ℕ}
+use lib.Dec.{eqb}
+use Rattle.laws.specs.If.{if_then_else_}
+use Rattle.laws.specs.Unique.{OneResult, told-apart}
+use Rattle.sampling.specs.Samples.{numberOf, Run}
+use Rattle.sampling.specs.declared.SampleAnswer.{SampleAnswer}
+use Rattle.sampling.specs.declared.SampleAnswer.the-variants.{Taken, ClockEnd, Full}
+use Rattle.sampling.proofs.samples.take.Reads as take-reads
+use Rattle.sampling.proofs.clock.cleared.Reads as cleared-reads
+use Rattle.sampling.proofs.clock.close_period.Reads as close-period-reads
+
+-- document 01's number tells all answers to a sample apart
+pub sample-apart : (x y : SampleAnswer) → numberOf x ≡ numberOf y → x ≡ y
+sample-apart = told-apart numberOf back told
+  where
+    back : ℕ → SampleAnswer
+    back n = if eqb n 5 then ClockEnd else if eqb n 6 then Full else Taken
+
+    told : (x : SampleAnswer) → back (numberOf x) ≡ x
+    told Taken = refl
+    told ClockEnd = refl
+    told Full = refl
+
+pub cleared : OneResult cleared-reads.Post
+cleared κs a x y e f p q = p ∙ sym q
+
+pub close-period : OneResult close-period-reads.Post
+close-period κs a x y e f p q = p ∙ sym q
+
+pub take-once : OneResult take-reads.Post
+take-once κs a x y e f p q =
+    let s = p ∙ sym q in
+    let taken = ap (λ (r : Run). r .taken) s in
+    let answer = sample-apart (x .answer) (y .answer) (ap (λ (r : Run). r .number) s) in
+    let state = ap (λ (r : Run). r .state) s in
+    (λ i. record { taken = taken i; answer = answer i; state = state i })

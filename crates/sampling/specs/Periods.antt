@@ -1,0 +1,62 @@
+-- "100 samples make a second. After the hundredth is booked the clock steps; if it is then a multiple of the period's seconds, the period closes. .. A period closed by the step is
+-- whole if it began on a multiple, else short."
+use mathlib.Core.Bool.{Bool, false}
+use mathlib.Core.List.{List}
+use Prim.Native.Nat.{ℕ, _+_, _*_, _%_}
+use lib.Dec.{eqb}
+use Rattle.laws.specs.If.{if_then_else_}
+use Rattle.laws.specs.Tables.{table}
+use Rattle.settings.specs.declared.Config.{Config}
+use Rattle.counting.specs.Filter.{lineAt}
+use Rattle.counting.specs.Levels.{level0, slotValues}
+use Rattle.counting.specs.declared.Line.{Line}
+use Rattle.sampling.specs.declared.Period.{Period}
+use Rattle.sampling.specs.declared.State.{State}
+
+-- a time is a multiple of the period's seconds; a period of 0 minutes, which no image has, has no multiple
+unfoldable pub multiple : ℕ → ℕ → Bool
+multiple period time = if eqb (period * 60) 0 then false else eqb (time % (period * 60)) 0
+
+-- level 0 of a line begins anew
+unfoldable pub cleared : Line → Line
+cleared line = record { run = line .run; rejected = line .rejected; remainder = line .remainder; units = 0 }
+
+-- line i at the start of a period
+unfoldable pub clearedAt : List Line → ℕ → Line
+clearedAt lines i = cleared (lineAt lines i)
+
+-- all lines at the start of a period
+unfoldable pub clearedLines : List Line → List Line
+clearedLines lines = table 16 (clearedAt lines)
+
+-- a period as it closes: state, closing time, and the chosen values of its levels
+unfoldable pub closedAs : Config → ℕ → ℕ → List Line → Period
+closedAs c state stamp lines = record { state = state; stamp = stamp; values = slotValues c (level0 lines) }
+
+-- closed by the step it is whole, 2, if it began on a multiple, else short, 1
+abbrev pub stateOf : ℕ → ℕ → ℕ
+stateOf period first = if multiple period first then 2 else 1
+
+-- the step: a new second, and on a multiple the period closes with the new time and the next begins
+unfoldable pub tickOf : Config → State → State
+tickOf c s =
+    let now = s .clock + 1 in
+    if multiple (c .period) now
+    then record {
+      clock = now;
+      samples = 0;
+      first = now;
+      lines = clearedLines (s .lines);
+      bills = s .bills;
+      meters = s .meters;
+      closed = closedAs c (stateOf (c .period) (s .first)) now (s .lines);
+    }
+    else record {
+      clock = now;
+      samples = 0;
+      first = s .first;
+      lines = s .lines;
+      bills = s .bills;
+      meters = s .meters;
+      closed = s .closed;
+    }

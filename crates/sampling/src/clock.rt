@@ -1,0 +1,80 @@
+// The clock's step and the closing of a period.
+use crate::Line;
+use crate::Period;
+use crate::State;
+use counting::levels::level9;
+use settings::Config;
+ghost use mathlib.Core.Path.{_≡_};
+ghost use Prim.Native.Nat.{_<_};
+ghost use Rattle.sampling.specs.Periods.{multiple, clearedLines, stateOf, closedAs, tickOf};
+
+// Whether a time is a multiple of the period's seconds. No image has a period of 0 minutes; one that had would have no multiple.
+pub(crate) fn is_multiple(period: u8, time: u32) -> bool
+    ensures { λ r. ⌜ r ≡ multiple period time ⌝ }
+{
+    let seconds = (period as u32) * 60;
+    if seconds == 0 {
+        return false;
+    }
+    time % seconds == 0
+}
+
+// The lines at the start of a period: only level 0 begins anew.
+pub fn cleared(lines: [Line; 16]) -> [Line; 16]
+    ensures { λ r. ⌜ r ≡ clearedLines lines ⌝ }
+{
+    let mut next = lines;
+    for i in 0..16usize {
+        let line = lines[i];
+        next[i] = Line {
+            run: line.run,
+            rejected: line.rejected,
+            remainder: line.remainder,
+            units: 0,
+        };
+    }
+    next
+}
+
+// The period that closes: its state, its closing time, its chosen values.
+pub fn close_period(config: Config, state: u8, stamp: u32, lines: [Line; 16]) -> Period
+    ensures { λ r. ⌜ r ≡ closedAs config state stamp lines ⌝ }
+{
+    let values = level9(config, lines);
+    Period {
+        state,
+        stamp,
+        values,
+    }
+}
+
+// A period that the step closes is whole if it began on a multiple, else short.
+fn step_state(period: u8, first: u32) -> u8
+    ensures { λ r. ⌜ r ≡ stateOf period first ⌝ }
+{
+    if is_multiple(period, first) {
+        return 2;
+    }
+    1
+}
+
+// The step after the hundredth sample; on a multiple of the period's seconds the period closes.
+pub(crate) fn tick(config: Config, state: State) -> State
+    requires { ⌜ state .clock < 4294967295 ⌝ }
+    ensures { λ r. ⌜ r ≡ tickOf config state ⌝ }
+{
+    let clock = state.clock + 1;
+    let mut next = state;
+    next.clock = clock;
+    next.samples = 0;
+    if is_multiple(config.period, clock) {
+        let lines = state.lines;
+        let closed = close_period(config, step_state(config.period, state.first), clock, lines);
+        let fresh = cleared(lines);
+        next.closed = closed;
+        next.lines = fresh;
+        next.first = clock;
+        return next;
+    }
+    next
+}

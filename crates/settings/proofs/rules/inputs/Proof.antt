@@ -1,0 +1,44 @@
+-- `settings::rules::inputs` meets its contract. The loop's invariant: no entry before i breaks its rule.
+use mathlib.Core.Path.{_≡_, sym, _∙_}
+use Prim.Native.Nat.{ℕ, _-_}
+use borrow.Author.Needs.{needs}
+use borrow.Author.Tests.{not-true, not-false}
+use lib.ListN.{getD}
+use Rattle.laws.specs.Broken.{Kept, kept-none, kept-more, kept-broken, kept-all}
+use Rattle.settings.specs.Rules.{inputGood, noInput}
+use Rattle.settings.proofs.rules.inputs.Statement.{statement}
+use Rattle.settings.proofs.rules.inputs.Tie as tie
+
+abbrev Inv-loop : tie.InvT-loop
+Inv-loop xs i₀ i = Kept 16 (λ (j : ℕ). inputGood (getD xs j noInput)) i
+
+abbrev μ-loop : tie.MeasureT-loop
+μ-loop xs i₀ i = 16 - i
+
+loop-holds : tie.Need-loop-holds Inv-loop μ-loop
+loop-holds c = kept-none 16 _
+
+returns : tie.Need-returns Inv-loop μ-loop
+returns c = kept-broken (c .before .before .before .before .loop .inv) (c .before .before .before .loop-test .taken) (sym (c .before .input .ensures) ∙ not-true _ (c .if1 .taken))
+
+loop-again : tie.Need-loop-again Inv-loop μ-loop
+loop-again c = kept-more (c .before .before .before .before .loop .inv) (c .before .before .before .loop-test .taken) (sym (c .before .input .ensures) ∙ not-false _ (c .if1 .left))
+
+returns-2 : tie.Need-returns-2 Inv-loop μ-loop
+returns-2 c = kept-all (c .before .loop .inv) (c .loop-test .left)
+
+pub inputs-spec : {M : Type 1} → statement M
+inputs-spec =
+    tie.close
+    (tie.spec
+    Inv-loop
+    μ-loop
+    loop-holds
+    (λ c. search needs)
+    (λ c. search needs)
+    (λ c κs. search needs)
+    returns
+    (λ c. search needs)
+    (λ c. search needs)
+    loop-again
+    returns-2)

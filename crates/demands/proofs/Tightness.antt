@@ -7,8 +7,9 @@ use Rattle.counting.proofs.Unique as counting
 use Rattle.sampling.proofs.Unique as sampling
 use Rattle.recorder.proofs.Unique as recorder
 use Rattle.registers.proofs.Unique as registers
+use Rattle.lines.proofs.Unique as lines
 use Rattle.host.proofs.Unique as host
-use Rattle.demands.specs.Tightness.{OneCalendar, OneTariff, OneSettings, OneImage, OneCounting, OneSampling, OneRecorder, OneRegisters, OneHost, NoPrecondition, Tight}
+use Rattle.demands.specs.Tightness.{OneCalendar, OneTariff, OneSettings, OneImage, OneCounting, OneSampling, OneRecorder, OneRegisters, OneLines, OneHost, NoPrecondition, Tight}
 
 pub one-calendar : OneCalendar
 one-calendar =
@@ -97,6 +98,12 @@ one-registers =
       fleet-of = registers.fleet-of-once;
     }
 
+pub one-lines : OneLines
+one-lines =
+    record {
+      line-of = lines.line-of;
+    }
+
 pub one-host : OneHost
 one-host =
     record {
@@ -153,10 +160,11 @@ no-precondition =
       recorder-age-answer = λ κs args. tt;
       registers-read-register = λ κs args. tt;
       registers-fleet-of = λ κs args. tt;
+      lines-line-of = λ κs args. tt;
       host-recorder-image-check = λ κs args. tt;
       host-recorder-calendar = λ κs args. tt;
       host-recorder-age-class = λ κs args. tt;
     }
 
 pub tight : Tight
-tight = record { calendar = one-calendar; tariff = one-tariff; settings = one-settings; image = one-image; counting = one-counting; sampling = one-sampling; recorder = one-recorder; registers = one-registers; host = one-host; free = no-precondition }
+tight = record { calendar = one-calendar; tariff = one-tariff; settings = one-settings; image = one-image; counting = one-counting; sampling = one-sampling; recorder = one-recorder; registers = one-registers; lines = one-lines; host = one-host; free = no-precondition }

@@ -47,6 +47,7 @@ use Rattle.recorder.proofs.age_class.Reads as recorder-age-class
 use Rattle.recorder.proofs.age_answer.Reads as recorder-age-answer
 use Rattle.registers.proofs.read_register.Reads as registers-read-register
 use Rattle.registers.proofs.fleet_of.Reads as registers-fleet-of
+use Rattle.lines.proofs.line_of.Reads as lines-line-of
 use Rattle.host.proofs.recorder_image_check.Reads as host-recorder-image-check
 use Rattle.host.proofs.recorder_calendar.Reads as host-recorder-calendar
 use Rattle.host.proofs.recorder_age_class.Reads as host-recorder-age-class
@@ -126,6 +127,10 @@ pub record OneRegisters : Type 1 where
   pub read-register-buffer : OneExit (λ κs e. now (e .1 .1 .1 .0)) registers-read-register.Post
   pub fleet-of : OneResult registers-fleet-of.Post
 
+-- the lines of a text of calls: no second result fits, and for a lent buffer no second state of it
+pub record OneLines : Type 1 where
+  pub line-of : OneResult lines-line-of.Post
+
 -- the C functions: no second result fits, and for a lent buffer no second state of it
 pub record OneHost : Type 1 where
   pub recorder-image-check : OneResult host-recorder-image-check.Post
@@ -179,6 +184,7 @@ pub record NoPrecondition : Type 1 where
   pub recorder-age-answer : AsksNothing recorder-age-answer.Asked
   pub registers-read-register : AsksNothing registers-read-register.Asked
   pub registers-fleet-of : AsksNothing registers-fleet-of.Asked
+  pub lines-line-of : AsksNothing lines-line-of.Asked
   pub host-recorder-image-check : AsksNothing host-recorder-image-check.Asked
   pub host-recorder-calendar : AsksNothing host-recorder-calendar.Asked
   pub host-recorder-age-class : AsksNothing host-recorder-age-class.Asked
@@ -193,5 +199,6 @@ pub record Tight : Type 1 where
   pub sampling : OneSampling
   pub recorder : OneRecorder
   pub registers : OneRegisters
+  pub lines : OneLines
   pub host : OneHost
   pub free : NoPrecondition

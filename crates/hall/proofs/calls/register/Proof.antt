@@ -1,0 +1,24 @@
+-- `hall::calls::register` is safe: the room is at most the array.
+use borrow.Author.Needs.{needs}
+use lib.Seq.{length-take-le}
+use mathlib.Core.Path.{sym}
+use Rattle.hall.proofs.calls.register.Statement.{statement}
+use Rattle.hall.proofs.calls.register.Tie as tie
+
+array-borrow-prefix-bytes : tie.Need-array-borrow-prefix-bytes
+array-borrow-prefix-bytes c = search needs
+
+slice-aggregate-read-register : tie.Need-slice-aggregate-read-register
+slice-aggregate-read-register c = sym (length-take-le _ _ (array-borrow-prefix-bytes (c .before)))
+
+pub register-spec : {M : Type 1} → statement M
+register-spec =
+    tie.close
+    (tie.spec
+    (λ c κs. search needs)
+    array-borrow-prefix-bytes
+    slice-aggregate-read-register
+    (λ c κs. search needs)
+    (λ c κs. search needs)
+    (λ c. search needs)
+    (λ c. search needs))

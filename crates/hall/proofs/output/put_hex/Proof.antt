@@ -1,0 +1,31 @@
+-- `hall::output::put_hex` is safe and ends: the place is at most the length.
+use Prim.Native.Nat.{_≤_, _-_}
+use borrow.Author.Needs.{needs}
+use lib.ListN.{length}
+use mathlib.Core.Path.{_≡_}
+use Rattle.hall.proofs.output.put_hex.Statement.{statement}
+use Rattle.hall.proofs.output.put_hex.Tie as tie
+
+abbrev Inv-loop : tie.InvT-loop
+Inv-loop out₀ at bytes next₀ i₀ i-end out next i = (i ≤ i-end) × (i-end ≡ length bytes) × (length out₀ ≡ length out)
+
+abbrev μ-loop : tie.MeasureT-loop
+μ-loop out₀ at bytes next₀ i₀ i-end out next i = i-end - i
+
+pub put-hex-spec : {M : Type 1} → statement M
+put-hex-spec =
+    tie.close
+    (tie.spec
+    Inv-loop
+    μ-loop
+    (λ c. search needs)
+    (λ c. search needs)
+    (λ c κs. search needs)
+    (λ c κs. search needs)
+    (λ c κs. search needs)
+    (λ c κs. search needs)
+    (λ c. search needs)
+    (λ c. search needs)
+    (λ c. search needs)
+    (λ c. search needs)
+    (λ c. search needs))

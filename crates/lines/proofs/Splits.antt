@@ -1,0 +1,111 @@
+-- Laws of words (specs/Words.antt): turns of the loops that look for a blank, count words and compare them; the words of a text from a word on.
+use mathlib.Core.Path.{_≡_, refl, sym, ap, _∙_}
+use mathlib.Core.Bool.{Bool, true, false, _&&_}
+use mathlib.Core.List.{List, [], _∷_}
+use Prim.Native.Nat.{ℕ, zero, suc, _+_, _≤_, _<_, zero-le, suc-le-suc}
+use native.Mathlib.Nat.{le-of-suc-le-suc, not-suc-le-zero}
+use native.Mathlib.Numerals.{add-one}
+use native.Mathlib.Omega.{arith}
+use lib.Dec.{eqb}
+use lib.ListN.{length, getD, take, drop, drop-of-length-le}
+use lib.Seq.{drop-cons, drop-drop}
+use Rattle.laws.specs.Tests.{by-test}
+use Rattle.lines.specs.Words.{inFront, words, word, blankAt, same}
+
+-- the place of the first blank: a letter that is none, a blank, the end
+module _ (l : List ℕ) (i : ℕ) where
+  pub blank-miss : i < length l → eqb (getD l i 0) 32 ≡ false → i + blankAt (drop i l) ≡ i + 1 + blankAt (drop (i + 1) l)
+  unfolding blankAt
+  blank-miss h e = rw (add-one, drop-cons l i 0) (simp e (omega arith))
+
+  pub blank-hit : i < length l → eqb (getD l i 0) 32 ≡ true → i + blankAt (drop i l) ≡ i
+  unfolding blankAt
+  blank-hit h e = rw (drop-cons l i 0) (simp e (omega arith))
+
+  pub blank-end : length l ≤ i → i + blankAt (drop i l) ≡ i
+  unfolding blankAt
+  blank-end h = rw (drop-of-length-le l h) (omega arith)
+
+-- a letter in front changes the first word alone
+front-first : (b : ℕ) (ws : List (List ℕ)) → getD (inFront b ws) 0 [] ≡ b ∷ getD ws 0 []
+unfolding inFront
+front-first b [] = refl
+front-first b (w ∷ ws) = refl
+
+front-later : (b : ℕ) (ws : List (List ℕ)) (k : ℕ) → getD (inFront b ws) (suc k) [] ≡ getD ws (suc k) []
+unfolding inFront
+front-later b [] k = refl
+front-later b (w ∷ ws) k = refl
+
+front-length : (b : ℕ) (ws : List (List ℕ)) → 0 < length ws → length (inFront b ws) ≡ length ws
+unfolding inFront
+front-length b [] h = absurd (not-suc-le-zero h)
+front-length b (w ∷ ws) h = refl
+
+-- every text has a word
+some-word : (l : List ℕ) → 0 < length (words l)
+unfolding words
+some-word [] = suc-le-suc zero-le
+some-word (b ∷ rest) =
+    by-test (eqb b 32) (λ e. rw e (suc-le-suc zero-le))
+    (λ e. rw (e, front-length b (words rest) (some-word rest)) (some-word rest))
+
+-- the first word ends at the first blank
+pub first-word : (l : List ℕ) → word 0 l ≡ take (blankAt l) l
+unfolding words blankAt
+first-word [] = refl
+first-word (b ∷ rest) =
+    by-test (eqb b 32) (λ e. rw e) (λ e. rw (e, front-first b (words rest), first-word rest))
+
+-- the words after it are those of the text after the blank
+pub later-word : (l : List ℕ) (k : ℕ) → blankAt l < length l → word (suc k) l ≡ word k (drop (suc (blankAt l)) l)
+unfolding words blankAt
+later-word [] k h = absurd (not-suc-le-zero h)
+later-word (b ∷ rest) k h =
+    by-test (eqb b 32) (λ e. rw e)
+    (λ e. rw (e, front-later b (words rest) k) (later-word rest k (le-of-suc-le-suc (rw e at h))))
+
+-- with no blank there are none
+pub no-later-word : (l : List ℕ) (k : ℕ) → length l ≤ blankAt l → word (suc k) l ≡ []
+unfolding words blankAt
+no-later-word [] k h = refl
+no-later-word (b ∷ rest) k h =
+    by-test (eqb b 32) (λ e. absurd (not-suc-le-zero (rw e at h)))
+    (λ e. rw (e, front-later b (words rest) k) (no-later-word rest k (le-of-suc-le-suc (rw e at h))))
+
+-- counting words: a blank, another letter, the end
+module _ (l : List ℕ) (i : ℕ) where
+  pub count-blank : i < length l → eqb (getD l i 0) 32 ≡ true → length (words (drop i l)) ≡ length (words (drop (i + 1) l)) + 1
+  unfolding words
+  count-blank h e = rw (add-one i, drop-cons l i 0) (simp e (omega arith))
+
+  pub count-letter : i < length l → eqb (getD l i 0) 32 ≡ false → length (words (drop i l)) ≡ length (words (drop (i + 1) l))
+  unfolding words
+  count-letter h e = rw (add-one i, drop-cons l i 0) (simp e (front-length (getD l i 0) (words (drop (suc i) l)) (some-word (drop (suc i) l))))
+
+  pub count-end : length l ≤ i → length (words (drop i l)) ≡ 1
+  unfolding words
+  count-end h = rw (drop-of-length-le l h)
+
+-- words of different lengths differ
+pub same-lengths : (v w : List ℕ) → (length v ≡ length w → ⊥) → same v w ≡ false
+unfolding same
+same-lengths [] [] h = absurd (h refl)
+same-lengths [] (y ∷ ys) h = refl
+same-lengths (x ∷ xs) [] h = refl
+same-lengths (x ∷ xs) (y ∷ ys) h =
+    by-test (eqb x y) (λ e. rw e (same-lengths xs ys (λ q. h (ap suc q)))) (λ e. rw e)
+
+-- comparing words: letters that are the same, that differ, the end
+module _ (v w : List ℕ) (i : ℕ) where
+  pub same-turn : i < length v → i < length w → eqb (getD v i 0) (getD w i 0) ≡ true → same (drop i v) (drop i w) ≡ same (drop (i + 1) v) (drop (i + 1) w)
+  unfolding same
+  same-turn h g e = rw (add-one i, drop-cons v i 0, drop-cons w i 0, e)
+
+  pub same-not : i < length v → i < length w → eqb (getD v i 0) (getD w i 0) ≡ false → same (drop i v) (drop i w) ≡ false
+  unfolding same
+  same-not h g e = rw (drop-cons v i 0, drop-cons w i 0, e)
+
+  pub same-end : length v ≤ i → length w ≤ i → same (drop i v) (drop i w) ≡ true
+  unfolding same
+  same-end h g = rw (drop-of-length-le v h, drop-of-length-le w g)

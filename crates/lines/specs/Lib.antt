@@ -1,0 +1,4 @@
+-- What a line of a text of calls asks for: its words, its numbers, and the table of lines.
+pub mod Words
+pub mod Numbers
+pub mod Lines

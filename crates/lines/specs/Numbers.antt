@@ -1,0 +1,47 @@
+-- Decimal numbers: one digit or more, and nothing else. Zeros in front are allowed, a plus sign is not.
+use mathlib.Core.Bool.{Bool, true, false, _&&_}
+use mathlib.Core.List.{List, [], _∷_}
+use Prim.Native.Nat.{ℕ, _+_, _-_, _*_}
+use lib.Dec.{ltb, leb, eqb}
+use lib.IntN.{ℤ, pos, negℤ}
+use lib.ListN.{length, getD, drop}
+use Rattle.laws.specs.If.{if_then_else_}
+use Rattle.lines.specs.declared.numbers.Number.{Number}
+use Rattle.lines.specs.declared.numbers.Signed.{Signed}
+
+-- the letters 0 to 9
+abbrev pub isDigit : ℕ → Bool
+isDigit b = leb 48 b && leb b 57
+
+-- all letters are digits
+unfoldable pub digits : List ℕ → Bool
+digits [] = true
+digits (b ∷ rest) = isDigit b && digits rest
+
+-- the number that the digits make after n
+unfoldable pub valueFrom : ℕ → List ℕ → ℕ
+valueFrom n [] = n
+valueFrom n (b ∷ rest) = valueFrom (n * 10 + (b - 48)) rest
+
+-- a word is a number of at most `most`
+unfoldable pub isNumber : ℕ → List ℕ → Bool
+isNumber most w = ltb 0 (length w) && (digits w && leb (valueFrom 0 w) most)
+
+-- no number
+abbrev pub noNumber : Number
+noNumber = record { ok = false; value = 0 }
+
+-- the number of a word, if it is one of at most `most`
+unfoldable pub numberOf : ℕ → List ℕ → Number
+numberOf most w = if isNumber most w then record { ok = true; value = valueFrom 0 w } else noNumber
+
+-- a number that is not negative, and a negative one
+abbrev pub plain : Number → Signed
+plain n = record { ok = n .ok; value = pos (n .value) }
+
+abbrev pub opposite : Number → Signed
+opposite n = record { ok = n .ok; value = negℤ (pos (n .value)) }
+
+-- a number that may have a minus sign (45) in front, -2,147,483,648 to 2,147,483,647
+unfoldable pub signedOf : List ℕ → Signed
+signedOf w = if eqb (getD w 0 0) 45 then opposite (numberOf 2147483648 (drop 1 w)) else plain (numberOf 2147483647 w)

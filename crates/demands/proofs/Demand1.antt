@@ -6,7 +6,7 @@ use mathlib.Core.Logic.{_⊎_, inl, inr, ⊎-elim}
 use Prim.Native.Nat.{ℕ, zero, suc, _+_, _*_, _/_, _<_, _≤_}
 use native.Mathlib.Nat.{le-refl}
 use native.Mathlib.Omega.{arith}
-use borrow.Author.Tests.{eqb-true, eqb-false, eq-eqb, ltb-true, lt-ltb, leb-true, leb-false, le-leb, lt-leb}
+use borrow.Author.Tests.{not-true, not-false, eqb-true, eqb-false, eq-eqb, ltb-true, lt-ltb, leb-true, leb-false, le-leb, lt-leb}
 use lib.Dec.{eqb, ltb, leb}
 use lib.IntN.{ℤ}
 use lib.ListN.{length, getD, drop}
@@ -83,15 +83,6 @@ letters b t =
     let c = eqb (getD b 2 0) 67 in
     let front : (k && r) ≡ true = and-left (k && r) c t in
     (eqb-true _ _ (and-left k r front), eqb-true _ _ (and-right k r front), eqb-true _ _ (and-right (k && r) c t))
-
--- a test turned round
-not-true : (b : Bool) → not b ≡ true → b ≡ false
-not-true true e = sym e
-not-true false e = refl
-
-not-false : (b : Bool) → not b ≡ false → b ≡ true
-not-false true e = refl
-not-false false e = sym e
 
 -- an image's refusals, and what comes after them: `a` answers as the image does where that is refused
 image-then : (b : List ℕ) (rest : List Refusal) (a : Answer (Unit {0})) → ((n o : ℕ) → imageAnswer b ≡ refused n o → a ≡ refused n o)

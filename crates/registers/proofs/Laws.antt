@@ -1,10 +1,10 @@
 -- The laws of specs/Laws.antt on requests.
 use mathlib.Core.Path.{_≡_, refl, sym, ap, _∙_}
-use mathlib.Core.Bool.{Bool, true, false, true≢false, not}
+use mathlib.Core.Bool.{true, true≢false, not}
 use mathlib.Core.List.{List, _++_}
 use Prim.Native.Nat.{ℕ, _+_, _%_, _≤_}
 use native.Mathlib.Omega.{arith}
-use borrow.Author.Tests.{leb-true, ne-eqb, eqb-false}
+use borrow.Author.Tests.{not-false, leb-true, ne-eqb, eqb-false}
 use lib.Dec.{eqb, leb, ltb}
 use lib.IntN.{ℤ}
 use lib.ListN.{length, getD, drop}
@@ -21,10 +21,6 @@ use Rattle.registers.specs.Fleet.{meterAt, meterClass, classAt}
 use Rattle.registers.specs.Registers.{Group, groups, lookUp, groupOf, heldBy, Reply, refusal, reading, replyOf, registerReply}
 use Rattle.registers.specs.Laws.{BytesAsTable, RefusedLeaves, GivenFirst, InvalidMark, AwakeUnmarked}
 use Rattle.registers.proofs.Groups.{each-found, is-given, the}
-
-not-false : (b : Bool) → not b ≡ false → b ≡ true
-not-false true e = refl
-not-false false e = sym e
 
 serial-long : (m : Meter) (class : ℕ) → length (serialBytes m class) ≡ 10
 unfolding bytesOf serialBytes

@@ -1,16 +1,16 @@
 -- Laws of what a sample books.
-use mathlib.Core.Path.{_≡_, refl, sym, ap, _∙_}
+use mathlib.Core.Path.{_≡_, refl, sym, _∙_}
 use mathlib.Core.Bool.{Bool, true, false, not, _&&_}
 use mathlib.Core.List.{List}
-use Prim.Native.Nat.{ℕ, _+_, _^_, _<_, _≤_}
+use Prim.Native.Nat.{ℕ, _<_}
 use native.Mathlib.Nat.{add-zero}
 use native.Mathlib.Omega.{arith}
 use lib.Dec.{ltb, eqb}
 use lib.ListN.{length, getD}
-use borrow.Author.Tests.{lt-ltb, ltb-true, ltb-false}
+use borrow.Author.Tests.{ltb-true, ltb-false}
 use Rattle.laws.specs.If.{if_then_else_, if-same}
 use Rattle.laws.specs.Tests.{by-test}
-use Rattle.laws.specs.Any.{any, any-none, any-not, any-cong}
+use Rattle.laws.specs.Any.{any-none, any-not, any-cong}
 use Rattle.laws.specs.Total.{total-zero}
 use Rattle.laws.specs.Masks.{bitAt, bit-zero}
 use Rattle.laws.specs.Tables.{table, table-at, table-cong, table-self, length-table}
@@ -18,9 +18,9 @@ use Rattle.tariff.specs.Rules.{forceMapAt}
 use Rattle.settings.specs.declared.Config.{Config}
 use Rattle.settings.specs.declared.Input.{Input}
 use Rattle.settings.specs.declared.Register.{Register}
-use Rattle.counting.specs.Filter.{inputAt, lineAt, steppedOf, filteredAt}
+use Rattle.counting.specs.Filter.{lineAt, steppedOf, filteredAt}
 use Rattle.counting.specs.Units.{creditIf, unitsIf, creditedAt, unitsAt, creditsOf}
-use Rattle.counting.specs.Bills.{registerAt, billAt, unitAt, partOf, namedPart, sumOf, sumAt, sumsOf, registerUnits, feeds, dueOf, fills, billed, dueAt, fillsAt, billedAt, bookedOf, wantsAt, wantsMap}
+use Rattle.counting.specs.Bills.{registerAt, billAt, unitAt, namedPart, sumOf, sumAt, sumsOf, registerUnits, feeds, dueOf, fills, billed, dueAt, fillsAt, billedAt, bookedOf, wantsAt, wantsMap}
 use Rattle.sampling.specs.Samples.{bookingOf}
 use Rattle.counting.specs.declared.Line.{Line}
 use Rattle.counting.specs.declared.filter.Stepped.{Stepped}

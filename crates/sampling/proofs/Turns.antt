@@ -1,19 +1,18 @@
 -- One turn of a run of samples: which lines are active, and what each way through a sample does.
 use mathlib.Core.Path.{_≡_, refl, sym, ap, _∙_}
 use mathlib.Core.Bool.{Bool, true, false, not, _&&_, _||_, and-true, and-false}
-use mathlib.Core.List.{List, [], _∷_}
+use mathlib.Core.List.{List}
 use Prim.Native.Nat.{ℕ, suc, _+_, _^_, _<_, _≤_}
-use native.Mathlib.Nat.{zero-add, add-zero, lt-of-le-of-lt, le-antisymm}
-use native.Mathlib.Numerals.{add-one, one-add}
+use native.Mathlib.Nat.{add-zero, lt-of-le-of-lt, le-antisymm}
+use native.Mathlib.Numerals.{add-one}
 use native.Mathlib.Omega.{arith}
 use lib.Dec.{ltb, leb, eqb}
 use lib.Bits.{bitAnd, bitOr, bitXor, and-le-r, or-lt}
 use lib.ListN.{length, getD, drop}
 use lib.Seq.{drop-cons, drop-length}
-use borrow.Author.Tests.{lt-ltb, ltb-true, ltb-false, lt-leb, le-leb, eqb-true, eqb-false, ne-eqb}
-use Rattle.laws.specs.If.{if_then_else_}
+use borrow.Author.Tests.{lt-ltb, ltb-true, ltb-false, lt-leb, le-leb, eqb-true, eqb-false}
 use Rattle.laws.specs.Tests.{by-test, and-left, and-right}
-use Rattle.laws.specs.Answers.{Answer, given, refused}
+use Rattle.laws.specs.Answers.{given, refused}
 use Rattle.laws.specs.Masks.{maskOf, bitAt, bit-at, bit-zero, mask-below, mask-cong, mask-ext, mask-zero}
 use Rattle.laws.specs.BitTests.{either, bit-and, bit-or, bit-xor}
 use Rattle.laws.specs.Tables.{table, table-at, table-cong, table-self, length-table}
@@ -23,7 +22,7 @@ use Rattle.counting.specs.Filter.{inputAt, lineAt, active, nextRun, ends, fitti
 use Rattle.counting.specs.Units.{credited, creditIf, creditedAt, creditsOf}
 use Rattle.counting.specs.Bills.{bookedOf}
 use Rattle.sampling.specs.Periods.{multiple, cleared, clearedAt, clearedLines, tickOf}
-use Rattle.sampling.specs.Samples.{bookingOf, activeAt, activeLines, bookingOn, putIn, countedOf, clockEnd, sampleOf, Run, onward, samplesOf}
+use Rattle.sampling.specs.Samples.{bookingOf, activeAt, activeLines, putIn, countedOf, sampleOf, Run, samplesOf}
 use Rattle.counting.specs.declared.Line.{Line}
 use Rattle.counting.specs.declared.Bill.{Bill}
 use Rattle.sampling.specs.declared.State.{State}

@@ -1,9 +1,9 @@
 -- `registers::read_register` meets its contract: each return knows the layout and the tests that led there.
-use mathlib.Core.Path.{_≡_, refl, ap, sym, _∙_}
-use mathlib.Core.Bool.{Bool, true, false, not}
+use mathlib.Core.Path.{_≡_, ap, sym, _∙_}
+use mathlib.Core.Bool.{not}
 use Prim.Native.Nat.{ℕ, _≤_}
 use borrow.Author.Needs.{needs}
-use borrow.Author.Tests.{leb-true}
+use borrow.Author.Tests.{not-false, leb-true}
 use denote.Ref.{now}
 use lib.ListN.{length}
 use Rattle.recorder.specs.declared.Recorder.{Recorder}
@@ -26,10 +26,6 @@ few n found = rw (← found .long) (each-found (λ g. g .bytes ≤ 13) groups n 
 -- a register holds as many bytes as its layout says
 held-long : (n : ℕ) {registers bytes : ℕ} → Found (groupOf n) registers bytes → (r : Recorder) (i : ℕ) → length (heldBy (groupOf n) r i) ≡ bytes
 held-long n found r i = rw (found .is, ← found .long) (each-found (λ g. (r : Recorder) (i : ℕ) → length (g .holds r i) ≡ g .bytes) groups n _ (found .is) bytes-as-table r i)
-
-not-false : (b : Bool) → not b ≡ false → b ≡ true
-not-false true e = refl
-not-false false e = sym e
 
 returns : tie.Need-returns
 unfolding registerReply

@@ -1,12 +1,10 @@
 -- `counting::bills::sum_units` meets its contract. The loop's invariant: the units of the inputs before i that are named, each of 32 bits.
-use mathlib.Core.Path.{_≡_, ap, _∙_}
+use mathlib.Core.Path.{_≡_}
 use Prim.Native.Nat.{_-_, _*_, _≤_}
-use native.Mathlib.Nat.{suc-mul}
-use native.Mathlib.Numerals.{add-one}
 use native.Mathlib.Omega.{arith}
 use borrow.Author.Needs.{needs}
 use Rattle.laws.specs.Total.{total, total-none, total-turn, total-done}
-use Rattle.counting.specs.Bills.{partOf, unitAt, namedPart, sumOf}
+use Rattle.counting.specs.Bills.{unitAt, namedPart, sumOf}
 use Rattle.counting.proofs.bills.sum_units.Statement.{statement}
 use Rattle.counting.proofs.bills.sum_units.Tie as tie
 

@@ -1,5 +1,5 @@
 -- `counting::filter::step_lines` meets its contract. The loop's invariant: the lines before i have passed the filter, and their impulses are in the mask.
-use mathlib.Core.Path.{_≡_, sym, ap, _∙_}
+use mathlib.Core.Path.{_≡_, ap, _∙_}
 use Prim.Native.Nat.{_-_, _≤_}
 use native.Mathlib.Omega.{arith}
 use borrow.Author.Needs.{needs}

@@ -1,5 +1,5 @@
 -- `counting::levels::function_value` meets its contract. The loop's invariant: the value, read from its bits, is the sum of the terms before k, at most 2 ^ 44 from 0 for each.
-use mathlib.Core.Path.{_≡_, refl, _∙_}
+use mathlib.Core.Path.{_≡_, _∙_}
 use Prim.Native.Nat.{ℕ, _+_, _-_, _*_, _^_, _≤_}
 use native.Mathlib.Omega.{arith}
 use lib.IntN.{pos, natAbs}
@@ -11,7 +11,7 @@ use borrow.Author.Tests.{lt-ltb, le-ltb}
 use borrow.Author.Needs.{needs}
 use Rattle.laws.specs.Arrays.{elem-sfits}
 use Rattle.laws.specs.SignedTotal.{abs-fits, totalℤ, totalℤ-none, totalℤ-turn, totalℤ-done}
-use Rattle.counting.specs.Bills.{unitAt, sumAt}
+use Rattle.counting.specs.Bills.{sumAt}
 use Rattle.counting.specs.Levels.{termAt, level2, functionValue}
 use Rattle.counting.proofs.levels.function_value.Statement.{statement}
 use Rattle.counting.proofs.levels.function_value.Tie as tie

@@ -1,6 +1,5 @@
 -- `counting::levels::plus_times` meets its contract: the laws of proofs/Signed.antt at its three numbers.
 use mathlib.Core.Path.{refl}
-use native.Mathlib.Omega.{arith}
 use mir.Facts.{toZ-ofZ, sfits-widen}
 use borrow.Author.Needs.{needs}
 use Rattle.counting.proofs.Signed.{product-fits, sum-fits, sum-near, times-is, plus-is}

@@ -1,6 +1,6 @@
 -- `sampling::samples::take` meets its contract. The loop's invariant: what is left to take from the state put together of its parts, counted on from k, is the whole run.
-use mathlib.Core.Path.{_≡_, refl, sym, ap, _∙_}
-use Prim.Native.Nat.{_+_, _-_, _<_, _≤_}
+use mathlib.Core.Path.{_≡_, refl, sym, _∙_}
+use Prim.Native.Nat.{_-_, _≤_}
 use native.Mathlib.Omega.{arith}
 use native.Mathlib.Nat.{zero-add}
 use lib.Bits.{bitAnd, bitOr, bitXor}

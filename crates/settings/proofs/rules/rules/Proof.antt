@@ -1,5 +1,5 @@
 -- `settings::rules::rules` meets its contract. The loop's invariant: no entry before i breaks its rule.
-use mathlib.Core.Path.{_≡_, sym, _∙_}
+use mathlib.Core.Path.{sym, _∙_}
 use Prim.Native.Nat.{ℕ, _-_}
 use borrow.Author.Needs.{needs}
 use borrow.Author.Tests.{not-true, not-false}

@@ -1,0 +1,126 @@
+/* The jobs of crates/bench on the recorder of reference.c: the same arguments, the same input, the same output. */
+#include "reference.h"
+
+#include <stdio.h>
+#include <stdlib.h>
+#include <string.h>
+
+enum { SAMPLES = 1000 };
+
+/* Tuesday 01.04.1997, 00:00. */
+static const uint32_t start_time = 859852800;
+
+static uint8_t input[IMAGE_LENGTH + 2 * SAMPLES];
+static const uint8_t *const image = input;
+static uint16_t bits[SAMPLES];
+
+static const struct {
+    uint32_t group, registers;
+} groups[] = {{82, 32}, {89, 1}, {90, 32}, {91, 16}, {201, 16}, {202, 16}, {203, 16}, {204, 1}, {206, 1}};
+
+static uint32_t mixed(uint32_t sum, uint32_t number) { return sum * 31 + number; }
+
+static void start(struct recorder *r) {
+    reference_start(r, image, IMAGE_LENGTH, start_time);
+    for (int i = 0; i < METERS; i++) reference_reading(r, (uint32_t)i, i % 2 == 0 ? i : ~i, (uint32_t)i % 8, (uint32_t)i);
+}
+
+static void write_registers(const struct recorder *r) {
+    for (size_t k = 0; k < sizeof groups / sizeof groups[0]; k++)
+        for (uint32_t i = 0; i < groups[k].registers; i++) {
+            uint8_t bytes[13] = {0};
+            if (reference_register(r, groups[k].group, i, bytes, sizeof bytes) < 0) continue;
+            for (int b = 0; b < 13; b++) printf("%02x", bytes[b]);
+            putchar('\n');
+        }
+}
+
+static void samples(uint32_t rounds) {
+    static struct recorder r;
+    uint32_t sum = 0;
+    start(&r);
+    for (uint32_t i = 0; i < rounds; i++) {
+        size_t taken;
+        sum = mixed(sum, reference_samples(&r, bits, SAMPLES, &taken));
+    }
+    printf("%u\n", sum);
+    write_registers(&r);
+}
+
+static uint32_t image_number(uint32_t answer) { return answer >> 16 == 4 ? answer & 0xffff : answer >> 16; }
+
+static void images(uint32_t rounds) {
+    uint8_t bytes[IMAGE_LENGTH];
+    uint32_t sum = 0;
+    memcpy(bytes, image, sizeof bytes);
+    for (uint32_t i = 0; i < rounds; i++) {
+        bytes[198 + i % 64] = (uint8_t)i;
+        sum = mixed(sum, image_number(reference_image_check(bytes, sizeof bytes)));
+    }
+    printf("%u\n", sum);
+}
+
+static uint32_t given(int answer) {
+    switch (answer) {
+    case -11: return 100;
+    case -12: return 101;
+    case -8: return 102;
+    case -13: return 103;
+    default: return (uint32_t)answer;
+    }
+}
+
+/* How many bytes were given, and the first of them. */
+static uint32_t read_one(const struct recorder *r, uint32_t group, uint32_t number) {
+    uint8_t bytes[13] = {0};
+    uint32_t n = given(reference_register(r, group, number, bytes, sizeof bytes));
+    return mixed(n, bytes[0]);
+}
+
+static uint32_t read_groups(const struct recorder *r, uint32_t i) {
+    uint32_t sum = read_one(r, 82, i % 32);
+    sum = mixed(sum, read_one(r, 89, 0));
+    sum = mixed(sum, read_one(r, 90, i % 32));
+    sum = mixed(sum, read_one(r, 91, i % 16));
+    sum = mixed(sum, read_one(r, 201, i % 16));
+    sum = mixed(sum, read_one(r, 202, i % 16));
+    sum = mixed(sum, read_one(r, 203, i % 16));
+    sum = mixed(sum, read_one(r, 204, 0));
+    return mixed(sum, read_one(r, 206, 0));
+}
+
+static void reads(uint32_t rounds) {
+    static struct recorder r;
+    uint32_t sum = 0;
+    size_t taken;
+    start(&r);
+    reference_samples(&r, bits, SAMPLES, &taken);
+    reference_reset(&r);
+    for (uint32_t i = 0; i < rounds; i++) sum = mixed(sum, read_groups(&r, i));
+    printf("%u\n", sum);
+}
+
+static void moments(uint32_t rounds) {
+    uint32_t sum = 0;
+    for (uint32_t i = 0; i < rounds; i++) {
+        uint64_t number = reference_calendar(i * 2654435761u);
+        sum = mixed(mixed(sum, (uint32_t)number), (uint32_t)(number >> 32));
+    }
+    printf("%u\n", sum);
+}
+
+int main(int argc, char **argv) {
+    if (argc != 3) return 2;
+    uint32_t rounds = (uint32_t)strtoul(argv[2], NULL, 10);
+    if (fread(input, 1, sizeof input, stdin) != sizeof input) return 2;
+    for (int i = 0; i < SAMPLES; i++) bits[i] = (uint16_t)(input[IMAGE_LENGTH + 2 * i] | input[IMAGE_LENGTH + 2 * i + 1] << 8);
+    for (const char *job = argv[1]; *job != 0; job++) {
+        switch (*job) {
+        case 's': samples(rounds); break;
+        case 'i': images(rounds); break;
+        case 'r': reads(rounds); break;
+        case 'c': moments(rounds); break;
+        }
+    }
+    return 0;
+}

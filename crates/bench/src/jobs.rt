@@ -1,0 +1,172 @@
+// The jobs. What a round needs is made before the first, and what it gives is printed after the last.
+use crate::report::write_number;
+use crate::report::write_registers;
+use calendar::Dated;
+use calendar::Moment;
+use image::ImageAnswer;
+use recorder::Recorder;
+use recorder::SampleAnswer;
+use registers::RegisterAnswer;
+
+// Tuesday 01.04.1997, 00:00.
+const START: u32 = 859852800;
+
+// A check sum of 32 bits.
+fn mixed(sum: u64, number: u64) -> u64 {
+    (sum % 4294967296 * 31 + number % 4294967296) % 4294967296
+}
+
+// Every second one is negative.
+fn value_of(meter: u8) -> i32 {
+    if meter % 2 == 0 {
+        meter as i32
+    } else {
+        !(meter as i32)
+    }
+}
+
+// A reading of every meter that is fitted, with each STATUS and each SEQ.
+fn with_readings(recorder: Recorder) -> Recorder {
+    let mut now = recorder;
+    for i in 0..32u8 {
+        let read = now.reading(i, value_of(i), i % 8, i);
+        now = read.recorder;
+    }
+    now
+}
+
+fn started(image: [u8; 1126]) -> Recorder {
+    let start = Recorder::start(&image, START);
+    let recorder = start.recorder;
+    with_readings(recorder)
+}
+
+fn refusal(answer: SampleAnswer) -> u64 {
+    match answer {
+        SampleAnswer::Taken => 0,
+        SampleAnswer::ClockEnd => 5,
+        SampleAnswer::Full => 6,
+    }
+}
+
+// All samples in one call, and then again. The check sum is of the refusals.
+fn samples(recorder: Recorder, bits: [u16; 1000], rounds: u32) {
+    let mut now = recorder;
+    let mut sum: u64 = 0;
+    for i in 0..rounds {
+        let run = now.samples(&bits);
+        now = run.recorder;
+        let answer = run.answer;
+        sum = mixed(sum, refusal(answer));
+    }
+    write_number(sum);
+    write_registers(now);
+}
+
+fn image_number(answer: ImageAnswer) -> u64 {
+    match answer {
+        ImageAnswer::Accepted => 0,
+        ImageAnswer::Length => 1,
+        ImageAnswer::Mark => 2,
+        ImageAnswer::Version => 3,
+        ImageAnswer::Value(offset) => offset as u64,
+    }
+}
+
+// The image with another age limit each time, which breaks no rule.
+fn images(image: [u8; 1126], rounds: u32) {
+    let mut bytes = image;
+    let mut sum: u64 = 0;
+    for i in 0..(rounds as usize) {
+        bytes[198 + i % 64] = (i % 256) as u8;
+        sum = mixed(sum, image_number(image::check_image(&bytes)));
+    }
+    write_number(sum);
+}
+
+fn given(answer: RegisterAnswer) -> u64 {
+    match answer {
+        RegisterAnswer::Given(n) => n as u64,
+        RegisterAnswer::NoGroup => 100,
+        RegisterAnswer::NoRegister => 101,
+        RegisterAnswer::NotFitted => 102,
+        RegisterAnswer::NoRoom => 103,
+    }
+}
+
+fn wide(byte: u8) -> u64 {
+    byte as u64
+}
+
+// One register: how many bytes were given, and the first of them.
+fn read(recorder: Recorder, group: u32, register: u32) -> u64 {
+    let mut bytes = [0u8; 13];
+    let answer = registers::read_register(recorder, group, register, &mut bytes);
+    mixed(given(answer), wide(bytes[0]))
+}
+
+// One register of each group.
+fn read_groups(recorder: Recorder, i: u32) -> u64 {
+    let mut sum = read(recorder, 82, i % 32);
+    sum = mixed(sum, read(recorder, 89, 0));
+    sum = mixed(sum, read(recorder, 90, i % 32));
+    sum = mixed(sum, read(recorder, 91, i % 16));
+    sum = mixed(sum, read(recorder, 201, i % 16));
+    sum = mixed(sum, read(recorder, 202, i % 16));
+    sum = mixed(sum, read(recorder, 203, i % 16));
+    sum = mixed(sum, read(recorder, 204, 0));
+    mixed(sum, read(recorder, 206, 0))
+}
+
+fn reads(recorder: Recorder, rounds: u32) {
+    let mut sum: u64 = 0;
+    for i in 0..rounds {
+        sum = mixed(sum, read_groups(recorder, i));
+    }
+    write_number(sum);
+}
+
+fn packed(m: Moment) -> u64 {
+    (m.year as u64)
+        + (m.month as u64) * 0x1_0000
+        + (m.day as u64) * 0x100_0000
+        + (m.weekday as u64) * 0x1_0000_0000
+        + (m.hour as u64) * 0x100_0000_0000
+        + (m.minute as u64) * 0x1_0000_0000_0000
+        + (m.second as u64) * 0x100_0000_0000_0000
+}
+
+fn moment_number(dated: Dated) -> u64 {
+    match dated {
+        Dated::On(m) => packed(m),
+        Dated::NoDate => 0,
+    }
+}
+
+// Seconds from the whole range of the clock, far from one another.
+fn spread(i: u32) -> u32 {
+    ((i as u64) * 2654435761 % 4294967296) as u32
+}
+
+fn moments(rounds: u32) {
+    let mut sum: u64 = 0;
+    for i in 0..rounds {
+        let number = moment_number(calendar::moment_of(spread(i)));
+        sum = mixed(mixed(sum, number), number / 4294967296);
+    }
+    write_number(sum);
+}
+
+pub fn run(letter: u8, image: [u8; 1126], bits: [u16; 1000], rounds: u32) {
+    match letter {
+        b's' => samples(started(image), bits, rounds),
+        b'i' => images(image, rounds),
+        b'r' => {
+            let run = started(image).samples(&bits);
+            let recorder = run.recorder;
+            reads(recorder.reset_bills(), rounds)
+        }
+        b'c' => moments(rounds),
+        _ => {}
+    }
+}

@@ -1,0 +1,883 @@
+/* Random images and calls for the program hall, fixed by the seed.
+
+       calls SEED COUNT IMAGE > CALLS
+
+   It writes the image to the file IMAGE and about COUNT calls to standard output. Odd seeds have a damaged image and few calls; even ones a good image. Among
+   these, some first fill a bill register, a rejected count or a long period, by calls of their own: a run needs two lines at least, so thousands of them. */
+#include <stdarg.h>
+#include <stdint.h>
+#include <stdio.h>
+#include <stdlib.h>
+#include <string.h>
+
+enum { INPUTS = 16, SUMS = 8, SLOTS = 16, METERS = 32, SEASONS = 8, HOLIDAYS = 32, RULES = 16, BILLS = 16, IMAGE = 1126, LONGER = 3000 };
+
+#define LAST_SECOND 4294967295u
+#define MOST_OPEN 999999999u
+#define DAY 86400u
+
+/* Random numbers: xorshift, with a first value in which each bit of the seed counts. */
+
+static uint64_t chance_state;
+
+static void seed_with(uint64_t seed) {
+  uint64_t z = seed + 0x9e3779b97f4a7c15u;
+  z = (z ^ (z >> 30)) * 0xbf58476d1ce4e5b9u;
+  z = (z ^ (z >> 27)) * 0x94d049bb133111ebu;
+  chance_state = (z ^ (z >> 31)) | 1;
+}
+
+static uint32_t any32(void) {
+  chance_state ^= chance_state >> 12;
+  chance_state ^= chance_state << 25;
+  chance_state ^= chance_state >> 27;
+  return (uint32_t)((chance_state * 0x2545f4914f6cdd1du) >> 32);
+}
+
+static uint32_t below(uint32_t n) { return any32() % n; }
+static uint32_t from_to(uint32_t first, uint32_t last) { return first + below(last - first + 1); }
+static int percent(uint32_t n) { return below(100) < n; }
+
+#define PICK(list) ((list)[below(sizeof(list) / sizeof((list)[0]))])
+
+/* The image, and what the calls have to know of it. */
+
+static unsigned char image[LONGER];
+static unsigned image_length = IMAGE;
+
+static void put1(unsigned at, unsigned n) { image[at] = (unsigned char)n; }
+static void put2(unsigned at, unsigned n) { put1(at, n & 255); put1(at + 1, n >> 8); }
+static unsigned get2(unsigned at) { return image[at] + 256u * image[at + 1]; }
+
+static unsigned kind_of(unsigned i) { return image[6 + 7 * i]; }
+static unsigned shortest_of(unsigned i) { return image[7 + 7 * i]; }
+static unsigned longest_of(unsigned i) { return image[8 + 7 * i]; }
+static unsigned numerator_of(unsigned i) { return get2(9 + 7 * i); }
+static unsigned limit_of(unsigned m) { return get2(198 + 2 * m); }
+static unsigned period_seconds(void) { return image[5] ? 60u * image[5] : 60; }
+
+static unsigned fitted_inputs(void) {
+  unsigned mask = 0;
+  for (unsigned i = 0; i < INPUTS; i++)
+    if (kind_of(i)) mask |= 1u << i;
+  return mask;
+}
+
+/* Line bits in which no line is active, and in which those of a mask are. */
+static unsigned quiet(void) {
+  unsigned bits = 0;
+  for (unsigned i = 0; i < INPUTS; i++)
+    if (kind_of(i) == 2) bits |= 1u << i;
+  return bits;
+}
+
+static unsigned active(unsigned mask) { return quiet() ^ (mask & fitted_inputs()); }
+
+/* A good image. */
+
+static void put_input(unsigned i, unsigned kind, unsigned shortest, unsigned longest, unsigned numerator, unsigned denominator) {
+  unsigned at = 6 + 7 * i;
+  put1(at, kind);
+  put1(at + 1, shortest);
+  put1(at + 2, longest);
+  put2(at + 3, numerator);
+  put2(at + 5, denominator);
+}
+
+static unsigned some_factor(void) {
+  switch (below(5)) {
+  case 0: return 1;
+  case 1: return 10000;
+  case 2: return from_to(1, 10);
+  case 3: return from_to(1, 300);
+  default: return from_to(1, 10000);
+  }
+}
+
+static void some_input(unsigned i) {
+  unsigned shortest, longest;
+  if (percent(12)) {
+    put_input(i, 0, 0, 0, 0, 0);
+    return;
+  }
+  shortest = percent(80) ? from_to(1, 4) : percent(80) ? from_to(1, 20) : from_to(1, 255);
+  longest = percent(30) ? 255 : percent(20) ? shortest : shortest + below(256 - shortest);
+  if (percent(50) && shortest < 200) longest = shortest + below(12);
+  put_input(i, from_to(1, 2), shortest, longest, some_factor(), percent(60) ? from_to(1, 10) : some_factor());
+}
+
+static void some_sums(void) {
+  for (unsigned i = 0; i < SUMS; i++) {
+    unsigned mask = percent(30) ? 65535 : percent(10) ? 0 : below(65536);
+    put2(118 + 2 * i, mask & fitted_inputs());
+  }
+}
+
+static void some_coefficients(void) {
+  static const unsigned edges[] = {0, 1, 127, 129, 255};
+  for (unsigned i = 0; i < 32; i++) {
+    unsigned byte = percent(50) ? PICK(edges) : below(256);
+    put1(134 + i, byte == 128 ? 127 : byte);
+  }
+}
+
+static void some_slot(unsigned i) {
+  unsigned input = below(INPUTS), at = 166 + 2 * i, level = below(10);
+  put2(at, 255);
+  if (level < 3 && kind_of(input)) put2(at, 256 * input);
+  else if (level < 6) put2(at, 1 + 256 * below(SUMS));
+  else if (level < 9) put2(at, 2 + 256 * below(4));
+}
+
+static void some_limits(void) {
+  static const unsigned edges[] = {1, 2, 60, 900, 65535, 256, 255};
+  unsigned missing = below(40);
+  for (unsigned m = 0; m < METERS; m++) put2(198 + 2 * m, percent(missing) ? 0 : percent(50) ? PICK(edges) : from_to(1, 65535));
+}
+
+static void put_window(unsigned daily, unsigned k, unsigned first, unsigned end) {
+  put2(262 + 16 * daily + 4 * k, first);
+  put2(264 + 16 * daily + 4 * k, end);
+}
+
+static void some_window(unsigned daily, unsigned k) {
+  unsigned first = below(1440);
+  switch (below(8)) {
+  case 0: put_window(daily, k, 0, percent(50) ? 1440 : from_to(1, 1440)); break;
+  case 1: put_window(daily, k, first, 1440); break;
+  case 2: put_window(daily, k, first, first + 1); break;
+  case 3: case 4: put_window(daily, k, first, from_to(first + 1, 1440)); break;
+  default: put_window(daily, k, 0, 0);
+  }
+}
+
+static void some_days(unsigned whole) {
+  for (unsigned d = 0; d < 32; d++)
+    for (unsigned k = 0; k < 4; k++) some_window(d, k);
+  for (unsigned d = 0; d < 32; d++)
+    if (percent(whole)) put_window(d, below(4), 0, 1440);
+  for (unsigned i = 0; i < 128; i++) put1(774 + i, percent(15) ? 255 : below(32));
+}
+
+static unsigned leap(unsigned year) { return year % 4 == 0 && (year % 100 != 0 || year % 400 == 0); }
+
+static unsigned days_in(unsigned month, unsigned year) {
+  static const unsigned char days[13] = {0, 31, 28, 31, 30, 31, 30, 31, 31, 30, 31, 30, 31};
+  return days[month] + (month == 2 ? leap(year) : 0);
+}
+
+/* A day and a month of a year, often an edge: the first and the last of a month, the end of February, New Year. */
+static void put_day(unsigned at, unsigned year) {
+  unsigned month = percent(30) ? 2 : percent(20) ? 12 : percent(20) ? 1 : from_to(1, 12);
+  unsigned day = percent(30) ? days_in(month, year) : percent(20) ? 1 : from_to(1, days_in(month, year));
+  put1(at, day);
+  put1(at + 1, month);
+}
+
+static void some_seasons(void) {
+  for (unsigned i = 0; i < SEASONS; i++) {
+    unsigned at = 902 + 4 * i;
+    memset(image + at, 0, 4);
+    if (percent(15)) continue;
+    put_day(at, 2000);
+    put_day(at + 2, 2000);
+    if (percent(15)) memcpy(image + at + 2, image + at, 2);
+  }
+}
+
+static void some_holidays(void) {
+  for (unsigned i = 0; i < HOLIDAYS; i++) {
+    unsigned at = 934 + 4 * i, year = percent(40) ? 0 : percent(20) ? 2106 : percent(20) ? 1970 : from_to(1970, 2106);
+    memset(image + at, 0, 4);
+    if (percent(40)) continue;
+    put_day(at, year ? year : 2000);
+    put2(at + 2, year);
+  }
+}
+
+static void some_rules(void) {
+  for (unsigned i = 0; i < RULES; i++) put2(1062 + 2 * i, percent(10) ? 65535 : (percent(40) ? 255 : below(SEASONS)) + 256 * below(16));
+  for (unsigned i = 0; i < BILLS; i++) put2(1094 + 2 * i, percent(10) ? 65535 : below(SUMS) + 256 * (percent(30) ? 255 : below(RULES)));
+}
+
+static void some_image(void) {
+  static const unsigned minutes[] = {1, 1, 1, 1, 2, 2, 3, 4, 5, 6, 10, 12, 15, 20, 30, 60};
+  memcpy(image, "KRC\1\0", 5);
+  put1(5, PICK(minutes));
+  for (unsigned i = 0; i < INPUTS; i++) some_input(i);
+  some_sums();
+  some_coefficients();
+  for (unsigned i = 0; i < SLOTS; i++) some_slot(i);
+  some_limits();
+  some_days(percent(50) ? 60 : 10);
+  some_seasons();
+  some_holidays();
+  some_rules();
+}
+
+/* Damage: each kind breaks another rule of the image's table. Damaged images take turns: the first of a kind gets the first value of its list, and so on. */
+
+static unsigned turn;
+
+#define IN_TURN(list) ((list)[turn % (sizeof(list) / sizeof((list)[0]))])
+
+/* The first value past a range, then any up to the last. */
+static unsigned past(unsigned edge, unsigned last) { return turn % 2 == 0 ? edge : from_to(edge, last); }
+
+static void damage_head(unsigned kind) {
+  static const unsigned lengths[] = {0, 1125, 1127, 5, LONGER, 3, 1, 1128, 2252};
+  static const unsigned versions[] = {257, 0, 2, 256, 65535};
+  static const unsigned periods[] = {8, 0, 61, 7, 120, 9, 45, 11, 59, 13, 14, 16, 18, 24, 25, 255};
+  switch (kind) {
+  case 0: image_length = IN_TURN(lengths); break;
+  case 1: image_length = below(IMAGE); break;
+  case 2: put1(turn % 3, below(256)); break;
+  case 3: put2(3, IN_TURN(versions)); break;
+  case 4: put1(5, IN_TURN(periods)); break;
+  default: put1(5, below(256)); break;
+  }
+}
+
+static void damage_input(unsigned kind) {
+  static const unsigned wrong[] = {10001, 0, 65535, 10002, 32768};
+  unsigned at = 6 + 7 * below(INPUTS);
+  if (kind > 1 && image[at] == 0) put_input((at - 6) / 7, 1, 3, 8, 1, 10);
+  switch (kind) {
+  case 0: put1(at, 3 + below(253)); break;
+  case 1: memset(image + at, 0, 7); put1(at + 6 - turn % 6, 1 + below(255)); break;
+  case 2: put1(at + 1, 0); if (percent(50)) put1(at + 2, 0); break;
+  case 3: put1(at + 1, image[at + 2] == 255 ? 255 : image[at + 2] + 1u); put1(at + 2, image[at + 1] - 1u); break;
+  case 4: put2(at + 3, IN_TURN(wrong)); break;
+  case 5: put2(at + 5, IN_TURN(wrong)); break;
+  default: memset(image + at, 0, 7); break;
+  }
+}
+
+static void damage_sums(unsigned kind) {
+  unsigned i = below(INPUTS), at = 166 + 2 * below(SLOTS);
+  switch (kind) {
+  case 0: memset(image + 6 + 7 * i, 0, 7); put2(118 + 2 * below(SUMS), fitted_inputs() | 1u << i); break;
+  case 1: put1(134 + below(32), 128); break;
+  case 2: put1(at, past(3, 254)); put1(at + 1, percent(50) ? 0 : below(256)); break;
+  case 3: put2(at, 256 * past(16, 255)); break;
+  case 4: memset(image + 6 + 7 * i, 0, 7); some_sums(); put2(at, 256 * i); break;
+  case 5: put2(at, 1 + 256 * past(8, 255)); break;
+  case 6: put2(at, 2 + 256 * past(4, 255)); break;
+  default: put2(at, 255 + 256 * from_to(1, 255)); break;
+  }
+}
+
+static void damage_tariff(unsigned kind) {
+  unsigned d = below(32), k = below(4), n = from_to(1, 1440);
+  switch (kind) {
+  case 0: put_window(d, k, n, n); break;
+  case 1: put_window(d, k, n, below(n)); break;
+  case 2: put_window(d, k, below(1440), past(1441, 65535)); break;
+  case 3: put_window(d, k, n, 0); break;
+  case 4: put1(774 + below(128), past(32, 254)); break;
+  case 5: put1(1062 + 2 * below(RULES), past(8, 254)); break;
+  case 6: put1(1063 + 2 * below(RULES), past(16, 254)); break;
+  case 7: put2(1062 + 2 * below(RULES), below(SEASONS) + 256 * 255); break;
+  case 8: put1(1094 + 2 * below(BILLS), past(8, 254)); break;
+  case 9: put1(1095 + 2 * below(BILLS), past(16, 254)); break;
+  default: put2(1094 + 2 * below(BILLS), 255 + 256 * below(RULES)); break;
+  }
+}
+
+static void damage_date(unsigned kind) {
+  static const unsigned char days[][2] = {{0, 1}, {1, 0}, {32, 1}, {31, 4}, {31, 6}, {31, 9}, {31, 11}, {30, 2}, {31, 2}, {1, 13}, {255, 12}, {0, 0}};
+  static const unsigned years[] = {2107, 1969, 1, 65535, 2000 + 256 * 64};
+  unsigned season = 902 + 4 * below(SEASONS), holiday = 934 + 4 * below(HOLIDAYS);
+  const unsigned char *bad = PICK(days);
+  if (kind < 2 && image[season] == 0) memcpy(image + season, "\1\1\1\1", 4);
+  switch (kind) {
+  case 0: memcpy(image + season, bad, 2); break;
+  case 1: memcpy(image + season + 2, bad, 2); break;
+  case 2: memcpy(image + holiday, bad, 2); put2(holiday + 2, from_to(1970, 2106)); break;
+  case 3: memcpy(image + holiday, bad, 2); put2(holiday + 2, 0); break;
+  case 4: memcpy(image + holiday, "\35\2", 2); put2(holiday + 2, turn % 3 == 0 ? 2100 : turn % 3 == 1 ? 2000 : from_to(1970, 2106)); break;
+  case 5: memcpy(image + holiday, "\1\1", 2); put2(holiday + 2, IN_TURN(years)); break;
+  default: memcpy(image + holiday, "\35\2", 2); put2(holiday + 2, 0); break;
+  }
+}
+
+/* And bytes changed anywhere, or several kinds at once. */
+enum { HEAD = 6, INPUT = 7, SUM = 8, TARIFF = 11, DATE = 7, ANYWHERE = 4, DAMAGES = HEAD + INPUT + SUM + TARIFF + DATE + ANYWHERE };
+
+static void damage(unsigned kind) {
+  if (kind < HEAD) { damage_head(kind); return; }
+  kind -= HEAD;
+  if (kind < INPUT) { damage_input(kind); return; }
+  kind -= INPUT;
+  if (kind < SUM) { damage_sums(kind); return; }
+  kind -= SUM;
+  if (kind < TARIFF) { damage_tariff(kind); return; }
+  kind -= TARIFF;
+  if (kind < DATE) { damage_date(kind); return; }
+  kind -= DATE;
+  if (kind < 2)
+    for (unsigned i = kind ? from_to(2, 9) : 1; i > 0; i--) put1(below(IMAGE), below(256));
+  else
+    for (unsigned i = kind; i > 0; i--) damage(from_to(HEAD, DAMAGES - ANYWHERE - 1));
+}
+
+/* Lines. The line end is put before the next line, so that the last may have none. */
+
+static unsigned long calls;
+
+static void put_line(const char *text, size_t length) {
+  if (calls++ > 0) putchar('\n');
+  fwrite(text, 1, length, stdout);
+}
+
+/* One letter changed, taken out, put in or put twice. */
+static size_t edited(char *text, size_t length) {
+  static const char letters[] = "  -+0123456789.#xS\t\r\0\x80\xff";
+  char letter = letters[below(sizeof letters - 1)];
+  size_t at = below((uint32_t)length + 1);
+  switch (at == length ? 2 : below(4)) {
+  case 0: text[at] = letter; return length;
+  case 1: memmove(text + at, text + at + 1, length - at - 1); return length - 1;
+  case 3: letter = text[at]; break;
+  default: break;
+  }
+  memmove(text + at + 1, text + at, length - at);
+  text[at] = letter;
+  return length + 1;
+}
+
+/* Long bursts stay as they are: one digit more, and they would take too long. */
+static void line(const char *format, ...) {
+  char text[400];
+  va_list list;
+  size_t length;
+  va_start(list, format);
+  length = (size_t)vsnprintf(text, sizeof text - 2, format, list);
+  va_end(list);
+  if (percent(2) && (text[1] != 'a' || length <= 12)) length = edited(text, length);
+  put_line(text, length);
+}
+
+/* The clock as far as it can be told without the answers. */
+static uint32_t clock_now;
+static unsigned samples_now;
+
+static void pass(uint32_t n) {
+  uint64_t all = samples_now + (uint64_t)n, time = clock_now + all / 100;
+  clock_now = time > LAST_SECOND ? LAST_SECOND : (uint32_t)time;
+  samples_now = all % 100;
+}
+
+static void samples(unsigned bits, uint32_t n) {
+  if (n == 1 && percent(70)) line("sample %u", bits);
+  else line("sample %u %u", bits, n);
+  pass(n);
+}
+
+/* A run of one sample, never damaged: the calls that fill something up. */
+static void impulse(unsigned mask) {
+  char text[40];
+  put_line(text, (size_t)sprintf(text, "sample %u", active(mask)));
+  put_line(text, (size_t)sprintf(text, "sample %u", quiet()));
+  pass(2);
+}
+
+static void set(uint32_t time) {
+  line("set %u", time);
+  clock_now = time;
+  samples_now = 0;
+}
+
+/* A start, or a set, that is never damaged, since what follows hangs on it. */
+static void surely(const char *command, uint32_t time) {
+  char text[40];
+  put_line(text, (size_t)sprintf(text, "%s %u", command, time));
+  clock_now = time;
+  samples_now = 0;
+}
+
+static void start(uint32_t time) { surely("start", time); }
+
+/* Times: the edges of the clock, periods, days, seasons, holidays and windows. */
+
+static uint32_t day_time(unsigned day, unsigned month, unsigned year) {
+  uint32_t days = day - 1;
+  for (unsigned y = 1970; y < year; y++) days += 365 + leap(y);
+  for (unsigned m = 1; m < month; m++) days += days_in(m, year);
+  return days * DAY;
+}
+
+static uint32_t within_day(uint32_t midnight) {
+  switch (below(4)) {
+  case 0: return midnight;
+  case 1: return midnight + DAY - 1;
+  case 2: return midnight - 1;
+  default: return midnight + below(DAY);
+  }
+}
+
+static unsigned some_year(void) { return percent(15) ? 2100 : percent(15) ? 2000 : from_to(1970, 2105); }
+
+static uint32_t season_time(void) {
+  unsigned at = 902 + 4 * below(SEASONS) + 2 * below(2);
+  if (image[at] == 0 || image[at + 1] == 0 || image[at + 1] > 12) return any32();
+  return within_day(day_time(image[at], image[at + 1], some_year()) + (percent(20) ? DAY : 0));
+}
+
+static uint32_t holiday_time(void) {
+  unsigned at = 934 + 4 * below(HOLIDAYS), year = get2(at + 2);
+  if (image[at] == 0 || image[at + 1] == 0 || image[at + 1] > 12 || year > 2106) return any32();
+  return within_day(day_time(image[at], image[at + 1], year && percent(80) ? year : some_year()));
+}
+
+static uint32_t window_time(void) {
+  unsigned at = 262 + 2 * below(256);
+  uint32_t midnight = (percent(50) ? clock_now : any32()) / DAY * DAY;
+  return midnight + 60 * (get2(at) % 1441) - below(2);
+}
+
+static uint32_t edge_time(void) {
+  static const uint32_t edges[] = {0, 1, 59, 60, 61, 3599, 3600, DAY - 1, DAY, 100000000, 951782399, 951782400, 951868799, 951868800, 2147483647, 2147483648u,
+    4107542399u, 4107542400u, LAST_SECOND, LAST_SECOND - 1, LAST_SECOND - 2};
+  return PICK(edges);
+}
+
+static uint32_t some_time(void) {
+  uint32_t period = period_seconds();
+  switch (below(13)) {
+  case 0: return edge_time();
+  case 1: case 2: return clock_now - clock_now % period + period * below(3) - below(4);
+  case 3: return clock_now - clock_now % DAY + DAY * below(8) + below(3) - 1;
+  case 4: case 5: return season_time();
+  case 6: case 7: return holiday_time();
+  case 8: return window_time();
+  case 9: return day_time(1, 1, from_to(1970, 2106)) - below(3);
+  case 10: return day_time(from_to(27, 28), 2, percent(30) ? 2100 : from_to(1970, 2105)) + below(3) * DAY + (percent(50) ? DAY - 1 : 0);
+  case 11: return percent(50) ? clock_now : clock_now + below(2000) - 1000;
+  default: return any32();
+  }
+}
+
+/* Register requests. */
+
+static const unsigned groups[] = {82, 89, 90, 91, 201, 202, 203, 204, 206};
+static const unsigned registers[] = {32, 1, 32, 16, 16, 16, 16, 1, 1};
+static const unsigned lengths[] = {10, 2, 1, 1, 13, 13, 4, 13, 5};
+
+static void register_of(unsigned g, uint32_t n) {
+  static const uint32_t rooms[] = {0, 1, 12, 13, 14, 255, 256, 65536, LAST_SECOND};
+  switch (below(10)) {
+  case 0: line("register %u %u %u", groups[g], n, lengths[g] - 1); break;
+  case 1: line("register %u %u %u", groups[g], n, lengths[g]); break;
+  case 2: line("register %u %u %u", groups[g], n, PICK(rooms)); break;
+  default: line("register %u %u", groups[g], n); break;
+  }
+}
+
+static void register_call(void) {
+  static const uint32_t wrong[] = {0, 1, 81, 83, 88, 92, 200, 205, 207, 255, 256, 338, 346, 457, 458, 65536 + 82, LAST_SECOND};
+  static const uint32_t far[] = {1, 2, 15, 16, 17, 31, 32, 33, 255, 256, 257, 65536, 65537, LAST_SECOND};
+  unsigned g = below(9);
+  if (percent(4)) line("register %u %u", percent(70) ? PICK(wrong) : below(300), below(40));
+  else register_of(g, percent(92) ? below(registers[g]) : PICK(far));
+}
+
+/* What a few registers of a group show. */
+static void show(unsigned g, unsigned count) {
+  while (count-- > 0) register_of(g, below(registers[g]));
+}
+
+enum { SERIAL, TARIFF_MAP, DAILY, WEEKLY, LEVEL9, BILL, INPUT_REGISTER, FLEET, CLOCK };
+
+static void show_tariffs(void) {
+  register_of(TARIFF_MAP, 0);
+  show(DAILY, below(4));
+  show(WEEKLY, below(4));
+}
+
+/* Calls of one kind each. */
+
+static unsigned some_mask(void) {
+  return percent(50) ? 65535 : percent(40) ? 1u << below(INPUTS) : below(65536);
+}
+
+static unsigned some_bits(void) {
+  switch (below(4)) {
+  case 0: return below(65536);
+  case 1: return quiet();
+  default: return active(some_mask());
+  }
+}
+
+static void burst_call(void) {
+  static const uint32_t counts[] = {0, 1, 2, 99, 100, 101, 255, 256, 257, 511, 512, 513, 1024, 1025};
+  uint32_t n;
+  switch (below(8)) {
+  case 0: n = 100 - samples_now; break;
+  case 1: n = PICK(counts); break;
+  case 2: n = below(1000); break;
+  case 3: n = percent(10) ? below(100000) : below(3000); break;
+  default: n = from_to(1, 12); break;
+  }
+  samples(some_bits(), n);
+}
+
+/* A run of a length that some input is particular about. */
+static unsigned edge_run(void) {
+  unsigned i = below(INPUTS);
+  switch (below(8)) {
+  case 0: return shortest_of(i) > 1 ? shortest_of(i) - 1 : 1;
+  case 1: case 2: return shortest_of(i) ? shortest_of(i) : 1;
+  case 3: return longest_of(i) ? longest_of(i) : 1;
+  case 4: return longest_of(i) + 1;
+  case 5: return from_to(254, 258);
+  case 6: return 256 + shortest_of(i) + below(3);
+  default: return from_to(1, 5);
+  }
+}
+
+static void run_call(void) {
+  unsigned mask = some_mask();
+  if (percent(70)) samples(quiet(), from_to(1, 3));
+  samples(active(mask), edge_run());
+  samples(percent(80) ? quiet() : active(below(65536)), 1);
+  show(INPUT_REGISTER, below(3));
+  show(BILL, below(2));
+}
+
+/* An impulse that ends near the end of a second at an edge of time: in the hundredth sample, before it or after. */
+static void edge_call(void) {
+  unsigned n = percent(70) ? from_to(1, 4) : from_to(1, 60);
+  set(some_time() - (percent(60) ? 1 : 0));
+  samples(quiet(), 97 - n + below(4));
+  samples(active(some_mask()), n);
+  samples(quiet(), 1);
+  show(BILL, 2);
+  show(LEVEL9, 2);
+  if (percent(50)) samples(quiet(), from_to(1, 4));
+  show(LEVEL9, 2);
+  if (percent(30)) register_of(CLOCK, 0);
+}
+
+/* A period from its first second, or the one after, to its end and further. */
+static void period_call(void) {
+  uint32_t period = period_seconds();
+  if (period > 300 && percent(90)) return;
+  if (percent(70)) set(some_time() / period * period + (percent(60) ? 0 : below(3)));
+  run_call();
+  samples(quiet(), percent(80) ? period * 100 - samples_now - below(8) : period * 100 + below(period * 100));
+  run_call();
+  samples(quiet(), from_to(1, 120));
+  show(LEVEL9, 4);
+  if (percent(40)) samples(quiet(), period * 100);
+  show(LEVEL9, 2);
+}
+
+static int some_value(void) {
+  static const int edges[] = {0, 1, -1, 2147483647, -2147483647 - 1, -2147483647, 65535, -65536};
+  return percent(40) ? PICK(edges) : (int)(any32() / 2) - (percent(50) ? 2147483647 : 0);
+}
+
+static void reading_of(unsigned meter) {
+  static const unsigned statuses[] = {0, 0, 0, 2, 4, 6, 1, 3, 5, 7};
+  static const unsigned far[] = {8, 9, 31, 32, 33, 128, 255};
+  line("reading %u %d %u %u", meter, some_value(), percent(92) ? PICK(statuses) : PICK(far), percent(94) ? below(32) : PICK(far));
+}
+
+static void reading_call(void) {
+  static const unsigned far[] = {32, 33, 64, 128, 255};
+  unsigned meter = percent(95) ? below(METERS) : PICK(far);
+  reading_of(meter);
+  if (percent(30)) register_of(SERIAL, meter);
+}
+
+/* A reading, and the clock set to an edge of its age. */
+static void age_call(void) {
+  unsigned meter = below(METERS);
+  uint32_t time = percent(70) ? clock_now : some_time();
+  set(time);
+  for (unsigned i = below(percent(20) ? 40 : 4); i > 0; i--) reading_of(below(METERS));
+  reading_of(meter);
+  set(time + limit_of(meter) + below(3) - 1);
+  register_of(SERIAL, meter);
+  if (percent(30)) {
+    samples(quiet(), 100);
+    register_of(SERIAL, meter);
+  }
+  if (percent(40)) line("fleet");
+  else register_of(FLEET, 0);
+}
+
+/* The end of the clock. It is surely near: else the greatest COUNT would take minutes. */
+static void end_call(void) {
+  surely("set", LAST_SECOND - below(3));
+  if (percent(50)) samples(some_bits(), below(98));
+  samples(some_bits(), percent(30) ? LAST_SECOND : 400);
+  samples(some_bits(), 1);
+  register_of(CLOCK, 0);
+  set(some_time());
+}
+
+static void set_call(void) {
+  set(some_time());
+  if (percent(70)) show_tariffs();
+  if (percent(30)) show(LEVEL9, 2);
+}
+
+/* Lines that are wrong, blank, or long. */
+
+static void wrong_line(void) {
+  static const char *const lines[] = {
+    " ", "  ", "x", "Reset", "resets", " reset", "start\t0", "reset\r", "-", "0", "sampl", "samples 1", "start", "set", "date", "sample", "reading", "register",
+    "register 82", "register 82 0 13 1", "sample 1 2 3", "reset 1", "reset ", "image x", "fleet ", "reading 1 2 3", "reading 1 2 3 4 5", "date 1 2", "set  1",
+    "set ", "date ", "sample ", "sample 1 ", "sample  1", "set -1", "set +1", "set 4294967296", "set 99999999999999999999999999999", "start -0", "start 4294967296",
+    "sample 65536", "sample -1", "sample 1 4294967296", "sample 1 -5", "sample 0x1", "sample 1.0", "reading 256 0 0 0", "reading 0 2147483648 0 0",
+    "reading 0 -2147483649 0 0", "reading 0 - 0 0", "reading 0 --1 0 0", "reading 0 +1 0 0", "reading 0 1 256 0", "reading 0 1 0 256", "reading -0 1 0 0",
+    "reading 0 1 -0 0", "reading 0 1 0 -0", "reading 0 18446744073709551616 0 0", "register 4294967296 0", "register 82 -0", "register 82 0 -1",
+    "register 82 0 4294967296", "register 82 4294967296", "register x 0", "date 1e3", "date 18446744073709551617", "register 82 18446744073709551616",
+    "sample 18446744073709551617", "reading 32 2147483648 8 32", "start x y", "sample 65536 1 1"};
+  const char *text = PICK(lines);
+  put_line(text, strlen(text));
+}
+
+/* A line filled up by zeros before its number, or by more of a comment, to about 255 bytes, and far longer ones. */
+static void long_line(void) {
+  static const char *const fronts[] = {"date ", "set ", "#", "register 89 ", "reading 0 -", "sample 0 ", "x", "start "};
+  static char text[80000];
+  size_t length = percent(90) ? from_to(253, 258) : percent(80) ? from_to(259, 600) : from_to(60000, 79999);
+  const char *front = PICK(fronts);
+  memset(text, '0', length);
+  memcpy(text, front, strlen(front));
+  text[length - 1] = (char)('0' + below(10));
+  put_line(text, length);
+}
+
+static void byte_line(void) {
+  char text[40];
+  size_t length = below(sizeof text);
+  for (size_t i = 0; i < length; i++) {
+    text[i] = (char)below(256);
+    if (text[i] == '\n') text[i] = 0;
+  }
+  put_line(text, length);
+}
+
+static void odd_line(void) {
+  switch (below(12)) {
+  case 0: put_line("", 0); break;
+  case 1: put_line("# a comment", percent(50) ? 11 : 1); break;
+  case 2: long_line(); break;
+  case 3: byte_line(); break;
+  case 4: line("reading %u -0 000 %03u", below(METERS), below(32)); break;
+  case 5: line("register 00000000000000000000%u 0", groups[below(9)]); break;
+  default: wrong_line(); break;
+  }
+}
+
+static void some_call(void) {
+  unsigned n = below(1000);
+  if (n < 200) samples(some_bits(), 1);
+  else if (n < 320) burst_call();
+  else if (n < 400) run_call();
+  else if (n < 440) edge_call();
+  else if (n < 450) period_call();
+  else if (n < 500) set_call();
+  else if (n < 600) reading_call();
+  else if (n < 630) age_call();
+  else if (n < 635) end_call();
+  else if (n < 655) { line("reset"); show(BILL, below(4)); }
+  else if (n < 885) register_call();
+  else if (n < 893) line("image");
+  else if (n < 930) line("date %u", percent(70) ? some_time() : any32());
+  else if (n < 950) line("fleet");
+  else if (n < 998) odd_line();
+  else start(some_time());
+}
+
+static void some_calls(unsigned long until) {
+  while (calls < until) some_call();
+}
+
+/* A bill register to 999,999,999 or just below: inputs of 10,000 units and some of few, all on one sum. */
+
+static unsigned full_sum;
+static int full_by_rule; /* the full sum's registers have a rule, in force before noon */
+
+static void full_inputs(void) {
+  static const unsigned few[] = {1, 30, 900};
+  unsigned first = below(INPUTS - 2);
+  for (unsigned i = 0; i < INPUTS; i++) {
+    unsigned numerator = i - first < 3 ? few[i - first] : percent(70) ? 10000 : from_to(9000, 10000);
+    put_input(i, from_to(1, 2), 1, percent(50) ? from_to(1, 6) : from_to(1, 255), numerator, 1);
+  }
+}
+
+static void full_image(void) {
+  some_image();
+  full_inputs();
+  full_sum = below(SUMS);
+  full_by_rule = percent(50);
+  some_sums();
+  if (full_by_rule)
+    for (unsigned i = 0; i < SUMS; i++) put2(118 + 2 * i, below(65536) & below(65536)); /* far from full */
+  put2(118 + 2 * full_sum, 65535);
+  for (unsigned k = 0; k < 4; k++) put_window(0, k, 0, k ? 0 : 720);
+  memset(image + 774, 0, 8);
+  put2(1062, 255);
+  for (unsigned b = 0; b < BILLS; b++)
+    if (image[1094 + 2 * b] == full_sum || b % 5 == 4) put2(1094 + 2 * b, full_sum + 256 * (full_by_rule ? 0 : 255));
+  if (!full_by_rule) put2(1094 + 2 * below(BILLS), full_sum);
+}
+
+/* The inputs for the next impulse, so that the units are at most what is left, the large ones first. */
+static unsigned fitting(uint32_t left, uint32_t *units) {
+  unsigned mask = 0;
+  *units = 0;
+  for (unsigned least = 5000; ; least = 0) {
+    for (unsigned i = 0; i < INPUTS; i++)
+      if (!(mask >> i & 1) && numerator_of(i) >= least && *units + numerator_of(i) <= left) {
+        mask |= 1u << i;
+        *units += numerator_of(i);
+      }
+    if (least == 0) return mask;
+  }
+}
+
+static void fill(uint32_t most) {
+  uint32_t open = 0, units;
+  unsigned mask;
+  while ((mask = fitting(most - open, &units)) != 0) {
+    impulse(mask);
+    open += units;
+  }
+}
+
+/* Ends the runs by making them too long, which brings no units: nothing waits that would be refused again. */
+static void end_runs(void) {
+  samples(active(65535), 300);
+  samples(quiet(), 1);
+}
+
+/* CLOCK END and FULL are both due at the last sample. The last second is before noon. */
+static void end_and_full(void) {
+  end_runs();
+  surely("set", LAST_SECOND);
+  samples(quiet(), 98);
+  samples(active(65535), 1);
+  samples(quiet(), 1);
+  register_of(CLOCK, 0);
+  if (percent(80)) set(below(DAY));
+}
+
+/* One unit after another. */
+static void few_units(void) {
+  for (unsigned i = 0; i < INPUTS; i++)
+    if (numerator_of(i) == 1)
+      for (unsigned k = below(4); k > 0; k--) impulse(1u << i);
+}
+
+static void top_call(void) {
+  switch (below(11)) {
+  case 0: samples(some_bits(), 1); break;
+  case 1: samples(quiet(), percent(50) ? 1 : below(700)); break;
+  case 2: samples(active(1u << below(INPUTS)), 1); samples(quiet(), 1); break;
+  case 3: samples(active(some_mask()), from_to(1, 3)); samples(quiet(), from_to(1, 3)); break;
+  case 4: show(BILL, 2); break;
+  case 5: show(INPUT_REGISTER, 3); break;
+  case 6: run_call(); break;
+  case 7: set(percent(70) ? clock_now / DAY * DAY + (percent(50) ? 43199 : percent(50) ? 43200 : 100) : some_time()); break;
+  case 8: end_runs(); break;
+  case 9: end_runs(); few_units(); break;
+  default: end_and_full(); break;
+  }
+}
+
+static void full_calls(unsigned long until) {
+  static const uint32_t below_top[] = {0, 0, 1, 40, 15000, 15000};
+  unsigned long third = until / 3;
+  start(day_time(1, 1, from_to(1970, 2100)));
+  fill(MOST_OPEN - PICK(below_top));
+  few_units();
+  show(BILL, 6);
+  for (unsigned long end = calls + third; calls < end;) top_call();
+  line("reset");
+  show(BILL, 6);
+  for (unsigned long end = calls + third / 2; calls < end;) top_call();
+  some_calls(calls + third);
+}
+
+/* Rejected counts to 65,535 and past it: runs of one sample, which are too short. */
+
+static void held_image(void) {
+  some_image();
+  for (unsigned i = 0; i < INPUTS; i++) put_input(i, from_to(1, 2), from_to(2, 4), from_to(4, 255), some_factor(), some_factor());
+}
+
+static void held_calls(unsigned long until) {
+  start(any32() / 2);
+  for (unsigned i = 0; i < 65540; i++) {
+    impulse(65535);
+    if (i >= 65533) register_of(INPUT_REGISTER, below(INPUTS));
+  }
+  some_calls(calls + until);
+}
+
+/* A period of an hour with more units on a sum than 32 bits hold, and no bill register that could be full. */
+
+static void long_image(void) {
+  some_image();
+  put1(5, 60);
+  for (unsigned i = 0; i < INPUTS; i++) put_input(i, from_to(1, 2), 1, 255, 10000, 1);
+  put2(118 + 2 * below(SUMS), 65535);
+  for (unsigned i = 0; i < SUMS; i++) put2(166 + 2 * i, 1 + 256 * i);
+  memset(image + 1094, 255, 2 * BILLS);
+}
+
+static void long_calls(unsigned long until) {
+  start(any32() / 2 / 3600 * 3600);
+  for (unsigned i = 0; i < 27500; i++) impulse(65535);
+  samples(quiet(), 360000 - 55000);
+  for (unsigned i = 0; i < SLOTS; i++) register_of(LEVEL9, i);
+  some_calls(calls + until);
+}
+
+/* What a seed makes. */
+
+static void general_calls(unsigned long until) {
+  some_calls(below(6));
+  start(some_time());
+  some_calls(until);
+}
+
+static void damaged_calls(unsigned long until) {
+  some_calls(below(4));
+  start(some_time());
+  line("image");
+  register_of(LEVEL9, below(SLOTS));
+  some_calls(until < 40 ? until : 40);
+  start(some_time());
+  show(BILL, 2);
+}
+
+static void even_seed(uint32_t s, unsigned long count) {
+  if (s % 200 == 3) { held_image(); held_calls(count); }
+  else if (s % 200 == 103) { long_image(); long_calls(count); }
+  else if (s % 20 == 9) { full_image(); full_calls(count); }
+  else { some_image(); general_calls(count); }
+}
+
+int main(int count, char **arguments) {
+  FILE *file;
+  uint32_t seed;
+  if (count != 4) {
+    fprintf(stderr, "usage: calls SEED COUNT IMAGE\n");
+    return 2;
+  }
+  seed = (uint32_t)strtoul(arguments[1], NULL, 10);
+  seed_with(seed);
+  if (seed % 2 == 0) even_seed(seed / 2, strtoul(arguments[2], NULL, 10));
+  else { some_image(); turn = seed / 2 / DAMAGES; damage(seed / 2 % DAMAGES); damaged_calls(strtoul(arguments[2], NULL, 10)); }
+  if (percent(70)) putchar('\n');
+  file = fopen(arguments[3], "wb");
+  return file && fwrite(image, 1, image_length, file) == image_length && fclose(file) == 0 ? 0 : 2;
+}

@@ -1,18 +1,29 @@
--- No second result fits the contract of a public function of the counting.
-use mathlib.Core.Path.{sym, _∙_}
-use Rattle.laws.specs.Unique.{OneResult}
-use Rattle.counting.proofs.filter.step_lines.Reads as step-lines-reads
+-- No second result, and no second content of what is lent, fits the contract of a public function of the counting.
+use mathlib.Core.List.{[], _∷_}
+use mathlib.Core.Path.{sym, ap, _∙_}
+use denote.Ref.{now}
+use Rattle.laws.specs.Unique.{OneResult, OneExit}
+use Rattle.counting.proofs.filter.advance.Reads as advance-reads
+use Rattle.counting.proofs.filter.step_runs.Reads as step-runs-reads
 use Rattle.counting.proofs.filter.kind_mask.Reads as kind-mask-reads
 use Rattle.counting.proofs.filter.running_lines.Reads as running-lines-reads
-use Rattle.counting.proofs.units.credit_lines.Reads as credit-lines-reads
+use Rattle.counting.proofs.filter.runs_of.Reads as runs-of-reads
+use Rattle.counting.proofs.filter.put_runs.Reads as put-runs-reads
+use Rattle.counting.proofs.units.settle.Reads as settle-reads
+use Rattle.counting.proofs.units.some_units.Reads as some-units-reads
 use Rattle.counting.proofs.bills.sums_units.Reads as sums-units-reads
-use Rattle.counting.proofs.bills.book_bills.Reads as book-bills-reads
-use Rattle.counting.proofs.bills.wants_map.Reads as wants-map-reads
-use Rattle.counting.proofs.bills.map_if.Reads as map-if-reads
+use Rattle.counting.proofs.bills.book_amounts.Reads as book-amounts-reads
+use Rattle.counting.proofs.bills.amounts_of.Reads as amounts-of-reads
+use Rattle.counting.proofs.bills.put_amounts.Reads as put-amounts-reads
 use Rattle.counting.proofs.levels.level9.Reads as level9-reads
 
-pub step-lines : OneResult step-lines-reads.Post
-step-lines κs a x y e f p q = p ∙ sym q
+-- the run, as a list of one, is the first parameter
+pub advance-exit : OneExit (λ κs e. now (e .0) ∷ []) advance-reads.Post
+advance-exit κs a x y e f p q = ap (λ n. n ∷ []) (p ∙ sym q)
+
+-- the runs are the first parameter
+pub step-runs-exit : OneExit (λ κs e. now (e .0)) step-runs-reads.Post
+step-runs-exit κs a x y e f p q = p ∙ sym q
 
 pub kind-mask : OneResult kind-mask-reads.Post
 kind-mask κs a x y e f p q = p ∙ sym q
@@ -20,20 +31,29 @@ kind-mask κs a x y e f p q = p ∙ sym q
 pub running-lines : OneResult running-lines-reads.Post
 running-lines κs a x y e f p q = p ∙ sym q
 
-pub credit-lines : OneResult credit-lines-reads.Post
-credit-lines κs a x y e f p q = p ∙ sym q
+pub runs-of : OneResult runs-of-reads.Post
+runs-of κs a x y e f p q = p ∙ sym q
+
+pub put-runs : OneResult put-runs-reads.Post
+put-runs κs a x y e f p q = p ∙ sym q
+
+pub settle : OneResult settle-reads.Post
+settle κs a x y e f p q = p ∙ sym q
+
+pub some-units : OneResult some-units-reads.Post
+some-units κs a x y e f p q = p ∙ sym q
 
 pub sums-units : OneResult sums-units-reads.Post
 sums-units κs a x y e f p q = p ∙ sym q
 
-pub book-bills : OneResult book-bills-reads.Post
-book-bills κs a x y e f p q = p ∙ sym q
+pub book-amounts : OneResult book-amounts-reads.Post
+book-amounts κs a x y e f p q = p ∙ sym q
 
-pub wants-map : OneResult wants-map-reads.Post
-wants-map κs a x y e f p q = p ∙ sym q
+pub amounts-of : OneResult amounts-of-reads.Post
+amounts-of κs a x y e f p q = p ∙ sym q
 
-pub map-if : OneResult map-if-reads.Post
-map-if κs a x y e f p q = p ∙ sym q
+pub put-amounts : OneResult put-amounts-reads.Post
+put-amounts κs a x y e f p q = p ∙ sym q
 
 pub level9 : OneResult level9-reads.Post
 level9 κs a x y e f p q = p ∙ sym q

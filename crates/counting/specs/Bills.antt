@@ -1,8 +1,8 @@
 -- "The units go to level 0 of the input, each sum that names it, and each bill register on such a sum that has no rule or whose rule is in force at the clock's present
 -- second." And: "6 FULL: the sample would take a bill register past 999,999,999."
-use mathlib.Core.Bool.{Bool, false, not, _&&_, _||_}
+use mathlib.Core.Bool.{Bool, false, _&&_, _||_}
 use mathlib.Core.List.{List}
-use Prim.Native.Nat.{ℕ, _+_}
+use Prim.Native.Nat.{ℕ, _+_, _≤_}
 use lib.Dec.{ltb, eqb}
 use lib.ListN.{getD}
 use Rattle.laws.specs.If.{if_then_else_}
@@ -12,7 +12,7 @@ use Rattle.laws.specs.Masks.{bitAt}
 use Rattle.laws.specs.Tables.{table}
 use Rattle.settings.specs.declared.Register.{Register}
 use Rattle.counting.specs.declared.Bill.{Bill}
-use Rattle.counting.specs.declared.bills.Booked.{Booked}
+use Rattle.counting.specs.declared.bills.Amounts.{Amounts}
 
 -- bill register j of a configuration
 abbrev pub registerAt : List Register → ℕ → Register
@@ -58,9 +58,13 @@ feeds register map = eqb (register .rule) 255 || bitAt map (register .rule)
 unfoldable pub dueOf : Register → ℕ → List ℕ → ℕ
 dueOf register map sums = if feeds register map then registerUnits register sums else 0
 
--- the units would take the register past 999,999,999; one that gets none is not asked
+-- the units would take an amount past 999,999,999; one that gets none is not asked
+abbrev pub fillsUp : ℕ → ℕ → Bool
+fillsUp amount due = ltb 0 due && ltb 999_999_999 (amount + due)
+
+-- the units would take the register past 999,999,999
 unfoldable pub fills : Bill → ℕ → Bool
-fills bill due = ltb 0 due && ltb 999_999_999 (bill .amount + due)
+fills bill due = fillsUp (bill .amount) due
 
 -- the register with the units booked; a full one is left as it is, since the whole sample is refused
 unfoldable pub billed : Bill → ℕ → Bill
@@ -80,16 +84,53 @@ fillsAt registers bills map sums j = fills (billAt bills j) (dueAt registers map
 unfoldable pub billedAt : List Register → List Bill → ℕ → List ℕ → ℕ → Bill
 billedAt registers bills map sums j = billed (billAt bills j) (dueAt registers map sums j)
 
+-- what a sample books: FULL in any register, and all bills with their units
+pub record Booked : Type 0 where
+  pub full : Bool
+  pub bills : List Bill
+
 -- FULL in any register, and all bills with their units booked
 unfoldable pub bookedOf : List Register → List Bill → ℕ → List ℕ → Booked
 bookedOf registers bills map sums =
     record { full = any 16 (fillsAt registers bills map sums); bills = table 16 (billedAt registers bills map sums) }
 
--- register j has a rule, and its sum has units
-unfoldable pub wantsAt : List Register → List ℕ → ℕ → Bool
-wantsAt registers sums j =
-    not (eqb (registerAt registers j .rule) 255) && ltb 0 (registerUnits (registerAt registers j) sums)
+-- an amount with its units booked; a full one is left as it is
+unfoldable pub bookedAmount : ℕ → ℕ → ℕ
+bookedAmount amount due = if fillsUp amount due then amount else amount + due
 
--- some register has a rule and units
-unfoldable pub wantsMap : List Register → List ℕ → Bool
-wantsMap registers sums = any 16 (wantsAt registers sums)
+-- amount j would be too large
+unfoldable pub fullAt : List Register → List ℕ → ℕ → List ℕ → ℕ → Bool
+fullAt registers amounts map sums j = fillsUp (unitAt amounts j) (dueAt registers map sums j)
+
+-- amount j with its units booked
+unfoldable pub bookedAmountAt : List Register → List ℕ → ℕ → List ℕ → ℕ → ℕ
+bookedAmountAt registers amounts map sums j = bookedAmount (unitAt amounts j) (dueAt registers map sums j)
+
+-- whether one amount would be too large, and all with their units booked
+unfoldable pub amountsBooked : List Register → List ℕ → ℕ → List ℕ → Amounts
+amountsBooked registers amounts map sums =
+    record { full = any 16 (fullAt registers amounts map sums); amounts = table 16 (bookedAmountAt registers amounts map sums) }
+
+-- the open amounts of the bills, as numbers
+unfoldable pub amountsOf : List Bill → List ℕ
+amountsOf bills = table 16 (λ j. billAt bills j .amount)
+
+-- a bill with another open amount
+abbrev pub withAmount : Bill → ℕ → Bill
+withAmount bill amount = record { amount = amount; closed = bill .closed; stamp = bill .stamp; reset = bill .reset }
+
+-- bill j with its open amount out of a list of numbers
+unfoldable pub withAmountAt : List Bill → List ℕ → ℕ → Bill
+withAmountAt bills amounts j = withAmount (billAt bills j) (unitAt amounts j)
+
+-- the bills with their open amounts out of a list of numbers
+unfoldable pub withAmounts : List Bill → List ℕ → List Bill
+withAmounts bills amounts = table 16 (withAmountAt bills amounts)
+
+-- the units of input i added to each sum that names it
+unfoldable pub addedUnits : List ℕ → List ℕ → ℕ → ℕ → List ℕ
+addedUnits totals sums i units = table 8 (λ k. unitAt totals k + partOf (bitAt (getD sums k 0) i) units)
+
+-- totals to which the units of one more input can be added in 64 bits
+abbrev pub Below : List ℕ → Type 0
+Below totals = (k : ℕ) → unitAt totals k ≤ 64_424_509_425

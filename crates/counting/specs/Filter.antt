@@ -10,7 +10,6 @@ use Rattle.laws.specs.Masks.{maskOf, bitAt}
 use Rattle.laws.specs.Tables.{table}
 use Rattle.settings.specs.declared.Input.{Input}
 use Rattle.counting.specs.declared.Line.{Line}
-use Rattle.counting.specs.declared.filter.Stepped.{Stepped}
 
 -- input i of a configuration
 abbrev pub inputAt : List Input → ℕ → Input
@@ -33,8 +32,12 @@ abbrev pub ends : Line → Bool → Bool
 ends line on = not on && ltb 0 (line .run)
 
 -- a run from shortest to longest inclusive
+abbrev pub fits : Input → ℕ → Bool
+fits input run = leb (input .shortest) run && leb run (input .longest)
+
+-- the line's run is one
 abbrev pub fitting : Input → Line → Bool
-fitting input line = leb (input .shortest) (line .run) && leb (line .run) (input .longest)
+fitting input line = fits input (line .run)
 
 -- an impulse is accepted with this sample
 unfoldable pub accepted : Input → Line → Bool → Bool
@@ -62,6 +65,11 @@ filteredAt inputs lines mask i = filtered (inputAt inputs i) (lineAt lines i) (b
 unfoldable pub acceptedAt : List Input → List Line → ℕ → ℕ → Bool
 acceptedAt inputs lines mask i = accepted (inputAt inputs i) (lineAt lines i) (bitAt mask i)
 
+-- all lines after a sample, and the mask of its impulses
+pub record Stepped : Type 0 where
+  pub lines : List Line
+  pub impulses : ℕ
+
 -- all lines after the filter, and the mask of the impulses
 unfoldable pub steppedOf : List Input → List Line → ℕ → Stepped
 steppedOf inputs lines mask =
@@ -82,3 +90,27 @@ runningAt lines i = ltb 0 (lineAt lines i .run)
 -- the mask of the lines with a run
 unfoldable pub runningLines : List Line → ℕ
 runningLines lines = maskOf 16 (runningAt lines)
+
+-- the runs of the lines, as numbers
+unfoldable pub runsOf : List Line → List ℕ
+runsOf lines = table 16 (λ i. lineAt lines i .run)
+
+-- a line with another run
+abbrev pub withRun : Line → ℕ → Line
+withRun line run = record { run = run; rejected = line .rejected; remainder = line .remainder; units = line .units }
+
+-- line i with its run out of a list of numbers
+unfoldable pub withRunAt : List Line → List ℕ → ℕ → Line
+withRunAt lines runs i = withRun (lineAt lines i) (getD runs i 0)
+
+-- the lines with their runs out of a list of numbers
+unfoldable pub withRuns : List Line → List ℕ → List Line
+withRuns lines runs = table 16 (withRunAt lines runs)
+
+-- the run at place i after a sample, given the masks of active lines and of those that are asked
+unfoldable pub steppedRunAt : List ℕ → ℕ → ℕ → ℕ → ℕ
+steppedRunAt runs mask busy i = if bitAt busy i then nextRun (getD runs i 0) (bitAt mask i) else getD runs i 0
+
+-- all runs after a sample
+unfoldable pub steppedRuns : List ℕ → ℕ → ℕ → List ℕ
+steppedRuns runs mask busy = table 16 (steppedRunAt runs mask busy)

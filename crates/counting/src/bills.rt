@@ -2,16 +2,15 @@
 use crate::Bill;
 use crate::filter::is_on;
 use settings::Register;
-use tariff::Program;
 ghost use mathlib.Core.Path.{_≡_};
 ghost use Prim.Native.Nat.{_≤_};
-ghost use Rattle.laws.specs.If.{if_then_else_};
-ghost use Rattle.counting.specs.Bills.{partOf, sumOf, unitAt, sumsOf, registerUnits, feeds, dueOf, fills, billed, bookedOf, wantsMap};
-ghost use Rattle.tariff.specs.Rules.{forceMapAt};
+ghost use lib.ListN.{length};
+ghost use Rattle.counting.specs.Bills.{partOf, sumOf, unitAt, Below, addedUnits, sumsOf, registerUnits, dueOf, fillsUp, bookedAmount, amountsBooked, amountsOf, withAmounts};
 
-pub struct Booked {
+// Whether a register would be full, and the open amounts.
+pub struct Amounts {
     pub full: bool,
-    pub bills: [Bill; 16],
+    pub amounts: [u32; 16],
 }
 
 fn part(on: bool, units: u32) -> u64
@@ -29,17 +28,30 @@ pub(crate) fn sum_units(sum: u16, units: [u32; 16]) -> u64
 {
     let mut all: u64 = 0;
     for i in 0..16usize {
-        all += part(is_on(sum as u32, i), units[i]);
+        all += part(is_on(sum, i), units[i]);
     }
     all
 }
 
+// Adds the units of input i to each sum that names it.
+fn add_units(totals: &mut [u64; 8], sums: [u16; 8], i: usize, units: u32)
+    requires { ⌜ (length (now totals) ≡ 8) × Below (now totals) ⌝ }
+    ensures { λ _. ⌜ now (totals .exit) ≡ addedUnits (now (totals .entry)) sums i units ⌝ }
+{
+    for k in 0..8usize {
+        totals[k] = totals[k] + part(is_on(sums[k], i), units);
+    }
+}
+
+// The units of the sums. Few inputs bring units with a sample, so the inputs are gone through and not the sums.
 pub fn sums_units(sums: [u16; 8], units: [u32; 16]) -> [u64; 8]
     ensures { λ r. ⌜ r ≡ sumsOf sums units ⌝ }
 {
     let mut totals = [0u64; 8];
-    for k in 0..8usize {
-        totals[k] = sum_units(sums[k], units);
+    for i in 0..16usize {
+        if 0 < units[i] {
+            add_units(&mut totals, sums, i, units[i]);
+        }
     }
     totals
 }
@@ -67,63 +79,67 @@ fn due(register: Register, map: u16, sums: [u64; 8]) -> u64
 }
 
 // Whether the units would take a register past 999,999,999. A register that gets none is not asked.
-fn would_fill(bill: Bill, due: u64) -> bool
-    ensures { λ r. ⌜ r ≡ fills bill due ⌝ }
+fn would_fill(amount: u32, due: u64) -> bool
+    ensures { λ r. ⌜ r ≡ fillsUp amount due ⌝ }
 {
     if due > 999999999 {
         return true;
     }
-    (0 < due) & (999999999 < (bill.amount as u64) + due)
+    (0 < due) & (999999999 < (amount as u64) + due)
 }
 
-fn book_bill(bill: Bill, due: u64) -> Bill
-    ensures { λ r. ⌜ r ≡ billed bill due ⌝ }
+fn book_amount(amount: u32, due: u64) -> u32
+    ensures { λ r. ⌜ r ≡ bookedAmount amount due ⌝ }
 {
-    if would_fill(bill, due) {
-        return bill;
+    if would_fill(amount, due) {
+        return amount;
     }
-    if due == 0 {
-        return bill;
-    }
-    Bill {
-        amount: ((bill.amount as u64) + due) as u32,
-        closed: bill.closed,
-        stamp: bill.stamp,
-        reset: bill.reset,
-    }
+    ((amount as u64) + due) as u32
 }
 
-pub fn book_bills(registers: [Register; 16], bills: [Bill; 16], map: u16, sums: [u64; 8]) -> Booked
-    ensures { λ r. ⌜ r ≡ bookedOf registers bills map sums ⌝ }
+// Books the units to the open amounts. Where one register would be full, the amounts do not count: the whole sample is refused.
+pub fn book_amounts(
+    registers: [Register; 16],
+    amounts: [u32; 16],
+    map: u16,
+    sums: [u64; 8],
+) -> Amounts
+    ensures { λ r. ⌜ r ≡ amountsBooked registers amounts map sums ⌝ }
 {
-    let mut next = bills;
+    let mut next = amounts;
     let mut full = false;
     for j in 0..16usize {
         let units = due(registers[j], map, sums);
-        next[j] = book_bill(bills[j], units);
-        full = full | would_fill(bills[j], units);
+        full = full | would_fill(amounts[j], units);
+        next[j] = book_amount(amounts[j], units);
     }
-    Booked { full, bills: next }
+    Amounts {
+        full,
+        amounts: next,
+    }
 }
 
-// Whether some register with a rule gets units, if its rule is in force.
-pub fn wants_map(registers: [Register; 16], sums: [u64; 8]) -> bool
-    ensures { λ r. ⌜ r ≡ wantsMap registers sums ⌝ }
+// The open amounts of the bills, as numbers that can be lent.
+pub fn amounts_of(bills: [Bill; 16]) -> [u32; 16]
+    ensures { λ r. ⌜ r ≡ amountsOf bills ⌝ }
 {
-    let mut wants = false;
+    let mut amounts = [0u32; 16];
     for j in 0..16usize {
-        let register = registers[j];
-        wants = wants | ((register.rule != 255) & (0 < register_units(register, sums)));
+        let bill = bills[j];
+        amounts[j] = bill.amount;
     }
-    wants
+    amounts
 }
 
-// The tariff rules in force at a second, worked out only where they are wanted.
-pub fn map_if(program: Program, clock: u32, wanted: bool) -> u16
-    ensures { λ r. ⌜ r ≡ (if wanted then forceMapAt program clock else 0) ⌝ }
+// The bills with these open amounts.
+pub fn put_amounts(bills: [Bill; 16], amounts: [u32; 16]) -> [Bill; 16]
+    ensures { λ r. ⌜ r ≡ withAmounts bills amounts ⌝ }
 {
-    if wanted {
-        return tariff::force_map_at(program, clock);
+    let mut next = bills;
+    for j in 0..16usize {
+        let mut bill = bills[j];
+        bill.amount = amounts[j];
+        next[j] = bill;
     }
-    0
+    next
 }

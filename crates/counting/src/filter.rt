@@ -1,38 +1,34 @@
-// The filter of the lines: which of them are active, their runs, and the impulses that end.
+// The filter of the lines: each keeps its run of active samples, lent and advanced in place, and a run that ends is judged.
 use crate::Line;
 use settings::Input;
 ghost use mathlib.Core.Path.{_≡_};
+ghost use mathlib.Core.Bool.{true};
 ghost use Prim.Native.Nat.{_<_, _^_};
 ghost use Rattle.laws.specs.Masks.{withBit, bitAt};
-ghost use Rattle.counting.specs.Filter.{nextRun, oneMore, accepted, filtered, kindMask, runningLines, steppedOf};
-
-pub struct Stepped {
-    pub lines: [Line; 16],
-    pub impulses: u32,
-}
+ghost use Rattle.counting.specs.Filter.{nextRun, oneMore, fits, kindMask, runningLines, runsOf, withRuns, steppedRuns};
 
 // Whether a bit of a mask is on.
-pub(crate) fn is_on(mask: u32, place: usize) -> bool
+pub(crate) fn is_on(mask: u16, place: usize) -> bool
     ensures { λ r. ⌜ r ≡ bitAt mask place ⌝ }
 {
-    if place >= 32 {
+    if place >= 16 {
         return false;
     }
     (mask >> place) % 2 == 1
 }
 
-fn with_bit(mask: u32, place: usize, on: bool) -> u32
-    requires { ⌜ (place < 32) × (mask < 2 ^ place) ⌝ }
+fn with_bit(mask: u16, place: usize, on: bool) -> u16
+    requires { ⌜ (place < 16) × (mask < 2 ^ place) ⌝ }
     ensures { λ r. ⌜ r ≡ withBit mask place on ⌝ }
 {
     if on {
-        return (1u32 << place) + mask;
+        return (1u16 << place) + mask;
     }
     mask
 }
 
 // The run after a sample, counted to 256 and held there.
-pub(crate) fn next_run(run: u32, on: bool) -> u32
+fn next_run(run: u32, on: bool) -> u32
     ensures { λ r. ⌜ r ≡ nextRun run on ⌝ }
 {
     if on {
@@ -44,60 +40,50 @@ pub(crate) fn next_run(run: u32, on: bool) -> u32
     0
 }
 
-// A count of rejected impulses, held at 65,535.
-pub(crate) fn one_more(count: u16, on: bool) -> u16
-    ensures { λ r. ⌜ r ≡ oneMore count on ⌝ }
+// One line's filter: the run is lent, and a sample advances it in place.
+pub fn advance(run: &mut u32, on: bool)
+    ensures { λ _. ⌜ now (run .exit) ≡ nextRun (now (run .entry)) on ⌝ }
 {
-    if on {
-        if count < 65535 {
-            return count + 1;
-        }
+    let before = *run;
+    *run = next_run(before, on);
+}
+
+// The runs after a sample, each in place. Only the lines of `busy` are asked: those that are active or have a run.
+pub fn step_runs(runs: &mut [u32; 16], active: u16, busy: u16)
+    ensures { λ _. ⌜ now (runs .exit) ≡ steppedRuns (now (runs .entry)) active busy ⌝ }
+{
+    // The slice says that there are 16.
+    let whole = &runs[..];
+    let mut left = busy;
+    while left > 0 {
+        let i = u16::trailing_zeros(left) as usize;
+        advance(&mut runs[i], is_on(active, i));
+        left = left & (left - 1);
+    }
+}
+
+// One more impulse rejected, held at 65,535.
+pub(crate) fn one_more(count: u16) -> u16
+    ensures { λ r. ⌜ r ≡ oneMore count true ⌝ }
+{
+    if count < 65535 {
+        return count + 1;
     }
     count
 }
 
-pub(crate) fn accepts(input: Input, line: Line, on: bool) -> bool
-    ensures { λ r. ⌜ r ≡ accepted input line on ⌝ }
+// Whether a run that ends is an accepted impulse.
+pub(crate) fn accepts(input: Input, run: u32) -> bool
+    ensures { λ r. ⌜ r ≡ fits input run ⌝ }
 {
-    (!on & (0 < line.run))
-        & (((input.shortest as u32) <= line.run) & (line.run <= (input.longest as u32)))
-}
-
-pub(crate) fn step_line(input: Input, line: Line, on: bool) -> Line
-    ensures { λ r. ⌜ r ≡ filtered input line on ⌝ }
-{
-    let ends = !on & (0 < line.run);
-    let fits = ((input.shortest as u32) <= line.run) & (line.run <= (input.longest as u32));
-    Line {
-        run: next_run(line.run, on),
-        rejected: one_more(line.rejected, ends & !fits),
-        remainder: line.remainder,
-        units: line.units,
-    }
-}
-
-// The lines after the filter, and the mask of the impulses that were accepted.
-pub fn step_lines(inputs: [Input; 16], lines: [Line; 16], active: u32) -> Stepped
-    ensures { λ r. ⌜ r ≡ steppedOf inputs lines active ⌝ }
-{
-    let mut next = lines;
-    let mut impulses: u32 = 0;
-    for i in 0..16usize {
-        let on = is_on(active, i);
-        next[i] = step_line(inputs[i], lines[i], on);
-        impulses = with_bit(impulses, i, accepts(inputs[i], lines[i], on));
-    }
-    Stepped {
-        lines: next,
-        impulses,
-    }
+    ((input.shortest as u32) <= run) & (run <= (input.longest as u32))
 }
 
 // The inputs of one kind, as a mask.
-pub fn kind_mask(inputs: [Input; 16], kind: u8) -> u32
+pub fn kind_mask(inputs: [Input; 16], kind: u8) -> u16
     ensures { λ r. ⌜ r ≡ kindMask inputs kind ⌝ }
 {
-    let mut mask: u32 = 0;
+    let mut mask: u16 = 0;
     for i in 0..16usize {
         let input = inputs[i];
         mask = with_bit(mask, i, input.kind == kind);
@@ -106,13 +92,38 @@ pub fn kind_mask(inputs: [Input; 16], kind: u8) -> u32
 }
 
 // The lines with a run.
-pub fn running_lines(lines: [Line; 16]) -> u32
+pub fn running_lines(lines: [Line; 16]) -> u16
     ensures { λ r. ⌜ r ≡ runningLines lines ⌝ }
 {
-    let mut mask: u32 = 0;
+    let mut mask: u16 = 0;
     for i in 0..16usize {
         let line = lines[i];
         mask = with_bit(mask, i, 0 < line.run);
     }
     mask
+}
+
+// The runs of the lines, as numbers that can be lent.
+pub fn runs_of(lines: [Line; 16]) -> [u32; 16]
+    ensures { λ r. ⌜ r ≡ runsOf lines ⌝ }
+{
+    let mut runs = [0u32; 16];
+    for i in 0..16usize {
+        let line = lines[i];
+        runs[i] = line.run;
+    }
+    runs
+}
+
+// The lines with these runs.
+pub fn put_runs(lines: [Line; 16], runs: [u32; 16]) -> [Line; 16]
+    ensures { λ r. ⌜ r ≡ withRuns lines runs ⌝ }
+{
+    let mut next = lines;
+    for i in 0..16usize {
+        let mut line = lines[i];
+        line.run = runs[i];
+        next[i] = line;
+    }
+    next
 }

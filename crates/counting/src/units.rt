@@ -1,9 +1,10 @@
-// Units: what an accepted impulse adds to its line.
+// Units: what a run that ends comes to.
 use crate::Line;
-use crate::filter::is_on;
+use crate::filter::accepts;
+use crate::filter::one_more;
 use settings::Input;
 ghost use mathlib.Core.Path.{_≡_};
-ghost use Rattle.counting.specs.Units.{unitsOf, remainderOf, heldSum, creditIf, unitsIf, creditsOf};
+ghost use Rattle.counting.specs.Units.{unitsOf, remainderOf, heldSum, settled, settledUnits, settledOf, someUnits};
 
 pub struct Credits {
     pub lines: [Line; 16],
@@ -42,10 +43,11 @@ fn held_sum(units: u32, more: u32) -> u32
     sum as u32
 }
 
-fn credit_line(input: Input, line: Line, on: bool) -> Line
-    ensures { λ r. ⌜ r ≡ creditIf input line on ⌝ }
+// A line on which a run ends: an accepted impulse brings units, any other run is counted as rejected.
+fn settle_line(input: Input, line: Line, run: u32) -> Line
+    ensures { λ r. ⌜ r ≡ settled input line run ⌝ }
 {
-    if on {
+    if accepts(input, run) {
         return Line {
             run: line.run,
             rejected: line.rejected,
@@ -53,28 +55,47 @@ fn credit_line(input: Input, line: Line, on: bool) -> Line
             units: held_sum(line.units, units_of(input, line.remainder)),
         };
     }
-    line
+    Line {
+        run: line.run,
+        rejected: one_more(line.rejected),
+        remainder: line.remainder,
+        units: line.units,
+    }
 }
 
-fn line_units(input: Input, line: Line, on: bool) -> u32
-    ensures { λ r. ⌜ r ≡ unitsIf input line on ⌝ }
+// The units that it brings.
+fn settle_units(input: Input, line: Line, run: u32) -> u32
+    ensures { λ r. ⌜ r ≡ settledUnits input line run ⌝ }
 {
-    if on {
+    if accepts(input, run) {
         return units_of(input, line.remainder);
     }
     0
 }
 
-// The lines with the impulses of a mask credited, and the units that these brought.
-pub fn credit_lines(inputs: [Input; 16], lines: [Line; 16], impulses: u32) -> Credits
-    ensures { λ r. ⌜ r ≡ creditsOf inputs lines impulses ⌝ }
+// The lines with the runs of a mask ended, and the units that these brought.
+pub fn settle(inputs: [Input; 16], lines: [Line; 16], runs: &[u32; 16], ending: u16) -> Credits
+    ensures { λ r. ⌜ r ≡ settledOf inputs lines (now (runs .entry)) ending ⌝ }
 {
     let mut next = lines;
     let mut units = [0u32; 16];
-    for i in 0..16usize {
-        let on = is_on(impulses, i);
-        next[i] = credit_line(inputs[i], lines[i], on);
-        units[i] = line_units(inputs[i], lines[i], on);
+    let mut left = ending;
+    while left > 0 {
+        let i = u16::trailing_zeros(left) as usize;
+        units[i] = settle_units(inputs[i], next[i], runs[i]);
+        next[i] = settle_line(inputs[i], next[i], runs[i]);
+        left = left & (left - 1);
     }
     Credits { lines: next, units }
+}
+
+// Whether a line brought units.
+pub fn some_units(units: [u32; 16]) -> bool
+    ensures { λ r. ⌜ r ≡ someUnits units ⌝ }
+{
+    let mut some = false;
+    for i in 0..16usize {
+        some = some | (0 < units[i]);
+    }
+    some
 }

@@ -58,14 +58,18 @@ one-image =
 pub one-counting : OneCounting
 one-counting =
     record {
-      step-lines = counting.step-lines;
+      advance-exit = counting.advance-exit;
+      step-runs-exit = counting.step-runs-exit;
       kind-mask = counting.kind-mask;
       running-lines = counting.running-lines;
-      credit-lines = counting.credit-lines;
+      runs-of = counting.runs-of;
+      put-runs = counting.put-runs;
+      settle = counting.settle;
+      some-units = counting.some-units;
       sums-units = counting.sums-units;
-      book-bills = counting.book-bills;
-      wants-map = counting.wants-map;
-      map-if = counting.map-if;
+      book-amounts = counting.book-amounts;
+      amounts-of = counting.amounts-of;
+      put-amounts = counting.put-amounts;
       level9 = counting.level9;
     }
 
@@ -138,14 +142,18 @@ no-precondition =
       image-write-then-read = λ κs args. tt;
       image-read-then-write = λ κs args. tt;
       image-tester-line = λ κs args. tt;
-      counting-step-lines = λ κs args. tt;
+      counting-advance = λ κs args. tt;
+      counting-step-runs = λ κs args. tt;
       counting-kind-mask = λ κs args. tt;
       counting-running-lines = λ κs args. tt;
-      counting-credit-lines = λ κs args. tt;
+      counting-runs-of = λ κs args. tt;
+      counting-put-runs = λ κs args. tt;
+      counting-settle = λ κs args. tt;
+      counting-some-units = λ κs args. tt;
       counting-sums-units = λ κs args. tt;
-      counting-book-bills = λ κs args. tt;
-      counting-wants-map = λ κs args. tt;
-      counting-map-if = λ κs args. tt;
+      counting-book-amounts = λ κs args. tt;
+      counting-amounts-of = λ κs args. tt;
+      counting-put-amounts = λ κs args. tt;
       counting-level9 = λ κs args. tt;
       sampling-take = λ κs args. tt;
       sampling-cleared = λ κs args. tt;

@@ -1,5 +1,6 @@
 -- "Every public function promises its result and the state and buffer after it for each input, refused ones too; that no second result fits is proved": one page for every public function of every crate.
 -- `Post` is the claim that the checker itself reads off a contract in the source, and `Asked` what a caller has to show before a call.
+use mathlib.Core.List.{[], _∷_}
 use denote.Ref.{now}
 use Rattle.laws.specs.Unique.{OneResult, OneExit}
 use Rattle.calendar.proofs.is_leap.Reads as calendar-is-leap
@@ -25,14 +26,18 @@ use Rattle.image.proofs.write_image.Reads as image-write-image
 use Rattle.image.proofs.write_then_read.Reads as image-write-then-read
 use Rattle.image.proofs.read_then_write.Reads as image-read-then-write
 use Rattle.image.proofs.tester_line.Reads as image-tester-line
-use Rattle.counting.proofs.filter.step_lines.Reads as counting-step-lines
+use Rattle.counting.proofs.filter.advance.Reads as counting-advance
+use Rattle.counting.proofs.filter.step_runs.Reads as counting-step-runs
 use Rattle.counting.proofs.filter.kind_mask.Reads as counting-kind-mask
 use Rattle.counting.proofs.filter.running_lines.Reads as counting-running-lines
-use Rattle.counting.proofs.units.credit_lines.Reads as counting-credit-lines
+use Rattle.counting.proofs.filter.runs_of.Reads as counting-runs-of
+use Rattle.counting.proofs.filter.put_runs.Reads as counting-put-runs
+use Rattle.counting.proofs.units.settle.Reads as counting-settle
+use Rattle.counting.proofs.units.some_units.Reads as counting-some-units
 use Rattle.counting.proofs.bills.sums_units.Reads as counting-sums-units
-use Rattle.counting.proofs.bills.book_bills.Reads as counting-book-bills
-use Rattle.counting.proofs.bills.wants_map.Reads as counting-wants-map
-use Rattle.counting.proofs.bills.map_if.Reads as counting-map-if
+use Rattle.counting.proofs.bills.book_amounts.Reads as counting-book-amounts
+use Rattle.counting.proofs.bills.amounts_of.Reads as counting-amounts-of
+use Rattle.counting.proofs.bills.put_amounts.Reads as counting-put-amounts
 use Rattle.counting.proofs.levels.level9.Reads as counting-level9
 use Rattle.sampling.proofs.samples.take.Reads as sampling-take
 use Rattle.sampling.proofs.clock.cleared.Reads as sampling-cleared
@@ -94,14 +99,18 @@ pub record OneImage : Type 1 where
 
 -- lines, units, bills and levels: no second result fits, and for a lent buffer no second state of it
 pub record OneCounting : Type 1 where
-  pub step-lines : OneResult counting-step-lines.Post
+  pub advance-exit : OneExit (λ κs e. now (e .0) ∷ []) counting-advance.Post
+  pub step-runs-exit : OneExit (λ κs e. now (e .0)) counting-step-runs.Post
   pub kind-mask : OneResult counting-kind-mask.Post
   pub running-lines : OneResult counting-running-lines.Post
-  pub credit-lines : OneResult counting-credit-lines.Post
+  pub runs-of : OneResult counting-runs-of.Post
+  pub put-runs : OneResult counting-put-runs.Post
+  pub settle : OneResult counting-settle.Post
+  pub some-units : OneResult counting-some-units.Post
   pub sums-units : OneResult counting-sums-units.Post
-  pub book-bills : OneResult counting-book-bills.Post
-  pub wants-map : OneResult counting-wants-map.Post
-  pub map-if : OneResult counting-map-if.Post
+  pub book-amounts : OneResult counting-book-amounts.Post
+  pub amounts-of : OneResult counting-amounts-of.Post
+  pub put-amounts : OneResult counting-put-amounts.Post
   pub level9 : OneResult counting-level9.Post
 
 -- samples and periods: no second result fits, and for a lent buffer no second state of it
@@ -162,14 +171,18 @@ pub record NoPrecondition : Type 1 where
   pub image-write-then-read : AsksNothing image-write-then-read.Asked
   pub image-read-then-write : AsksNothing image-read-then-write.Asked
   pub image-tester-line : AsksNothing image-tester-line.Asked
-  pub counting-step-lines : AsksNothing counting-step-lines.Asked
+  pub counting-advance : AsksNothing counting-advance.Asked
+  pub counting-step-runs : AsksNothing counting-step-runs.Asked
   pub counting-kind-mask : AsksNothing counting-kind-mask.Asked
   pub counting-running-lines : AsksNothing counting-running-lines.Asked
-  pub counting-credit-lines : AsksNothing counting-credit-lines.Asked
+  pub counting-runs-of : AsksNothing counting-runs-of.Asked
+  pub counting-put-runs : AsksNothing counting-put-runs.Asked
+  pub counting-settle : AsksNothing counting-settle.Asked
+  pub counting-some-units : AsksNothing counting-some-units.Asked
   pub counting-sums-units : AsksNothing counting-sums-units.Asked
-  pub counting-book-bills : AsksNothing counting-book-bills.Asked
-  pub counting-wants-map : AsksNothing counting-wants-map.Asked
-  pub counting-map-if : AsksNothing counting-map-if.Asked
+  pub counting-book-amounts : AsksNothing counting-book-amounts.Asked
+  pub counting-amounts-of : AsksNothing counting-amounts-of.Asked
+  pub counting-put-amounts : AsksNothing counting-put-amounts.Asked
   pub counting-level9 : AsksNothing counting-level9.Asked
   pub sampling-take : AsksNothing sampling-take.Asked
   pub sampling-cleared : AsksNothing sampling-cleared.Asked

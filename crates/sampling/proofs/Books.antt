@@ -1,32 +1,36 @@
 -- Laws of what a sample books.
-use mathlib.Core.Path.{_≡_, refl, sym, _∙_}
-use mathlib.Core.Bool.{Bool, true, false, not, _&&_}
+use mathlib.Core.Path.{_≡_, refl, sym, ap, _∙_}
+use mathlib.Core.Bool.{Bool, true, false, not, _&&_, _||_}
 use mathlib.Core.List.{List}
 use Prim.Native.Nat.{ℕ, _<_}
 use native.Mathlib.Nat.{add-zero}
 use native.Mathlib.Omega.{arith}
-use lib.Dec.{ltb, eqb}
+use lib.Bits.{bitAnd, bitOr, bitXor}
+use lib.Dec.{ltb}
 use lib.ListN.{length, getD}
-use borrow.Author.Tests.{ltb-true, ltb-false}
-use Rattle.laws.specs.If.{if_then_else_, if-same}
+use borrow.Author.Tests.{ltb-true, ltb-false, lt-ltb}
+use Rattle.laws.specs.If.{if-same}
 use Rattle.laws.specs.Tests.{by-test}
-use Rattle.laws.specs.Any.{any-none, any-not, any-cong}
+use Rattle.laws.specs.Any.{any-none, any-not}
 use Rattle.laws.specs.Total.{total-zero}
-use Rattle.laws.specs.Masks.{bitAt, bit-zero}
+use Rattle.laws.specs.Masks.{bitAt, bit-at, bit-zero}
+use Rattle.laws.specs.BitTests.{either, bit-and, bit-or, bit-xor}
 use Rattle.laws.specs.Tables.{table, table-at, table-cong, table-self, length-table}
 use Rattle.tariff.specs.Rules.{forceMapAt}
 use Rattle.settings.specs.declared.Config.{Config}
 use Rattle.settings.specs.declared.Input.{Input}
 use Rattle.settings.specs.declared.Register.{Register}
-use Rattle.counting.specs.Filter.{lineAt, steppedOf, filteredAt}
-use Rattle.counting.specs.Units.{creditIf, unitsIf, creditedAt, unitsAt, creditsOf}
-use Rattle.counting.specs.Bills.{registerAt, billAt, unitAt, namedPart, sumOf, sumAt, sumsOf, registerUnits, feeds, dueOf, fills, billed, dueAt, fillsAt, billedAt, bookedOf, wantsAt, wantsMap}
-use Rattle.sampling.specs.Samples.{bookingOf}
+use Rattle.counting.specs.Filter.{lineAt, ends, steppedOf, filteredAt, runningAt, runningLines, withRunAt, withRuns, steppedRuns}
+use Rattle.counting.specs.Units.{creditIf, unitsIf, creditedAt, unitsAt, creditsOf, settledOf, someAt, someUnits}
+use Rattle.counting.specs.Bills.{registerAt, billAt, unitAt, namedPart, sumOf, sumAt, sumsOf, registerUnits, feeds, dueOf, fills, billed, dueAt, fillsAt, billedAt, bookedOf, bookedAmount, fullAt, bookedAmountAt, amountsBooked, withAmounts}
 use Rattle.counting.specs.declared.Line.{Line}
-use Rattle.counting.specs.declared.filter.Stepped.{Stepped}
 use Rattle.counting.specs.declared.units.Credits.{Credits}
-use Rattle.counting.specs.declared.bills.Booked.{Booked}
+use Rattle.counting.specs.declared.bills.Amounts.{Amounts}
 use Rattle.counting.specs.declared.Bill.{Bill}
+use Rattle.counting.proofs.Parts.{settled-lines, brought, none-settled, none-brought, full-parts, bills-parts}
+use Rattle.sampling.specs.Samples.{bookingOf}
+use Rattle.sampling.specs.Kept.{InForce, amountsAt}
+use Rattle.sampling.specs.declared.booking.Tariffs.{Tariffs}
 
 -- a register that gets nothing is not filled
 none-fills : (bill : Bill) → fills bill 0 ≡ false
@@ -84,43 +88,90 @@ no-impulse c clock lines bills mask e size =
     let filtered = table 16 (filteredAt (c .inputs) lines mask) in
     rw (← e, no-credit (c .inputs) filtered (length-table 16 _), nothing-booked (c .registers) bills (forceMapAt (c .program) clock) (c .sums) _ size (no-credit-units (c .inputs) filtered))
 
--- a register without units, or without a rule, does not ask for the map
-map-unasked : (register : Register) (map other : ℕ) (sums : List ℕ) → (not (eqb (register .rule) 255) && ltb 0 (registerUnits register sums)) ≡ false
-    → dueOf register map sums ≡ dueOf register other sums
-unfolding dueOf
-map-unasked register map other sums e =
-    by-test (eqb (register .rule) 255) (λ t. rw t)
-    (λ f.
-    let none : registerUnits register sums ≡ 0 = omega (arith, ltb-false 0 (registerUnits register sums) (rw f at e)) in
-    rw none (if-same (feeds register map) 0 ∙ sym (if-same (feeds register other) 0)))
+-- lines that bring nothing
+pub none-some : (units : List ℕ) → someUnits units ≡ false → (i : ℕ) → i < 16 → unitAt units i ≡ 0
+unfolding someUnits someAt
+none-some units e i l = let none = ltb-false 0 (unitAt units i) (any-not 16 (someAt units) e i l) in omega arith
 
--- where no register asks for it, any map does
-pub any-map : (registers : List Register) (bills : List Bill) (map other : ℕ) (sums : List ℕ) → wantsMap registers sums ≡ false
-    → bookedOf registers bills map sums ≡ bookedOf registers bills other sums
-unfolding bookedOf fillsAt billedAt dueAt wantsMap wantsAt
-any-map registers bills map other sums e =
-    let same : (j : ℕ) → j < 16 → dueOf (registerAt registers j) map sums ≡ dueOf (registerAt registers j) other sums = λ j l. map-unasked (registerAt registers j) map other sums (any-not 16 (wantsAt registers sums) e j l) in
-    let full = any-cong 16 (fillsAt registers bills map sums) (fillsAt registers bills other sums) (λ j l. rw (same j l)) in
-    let booked = table-cong 16 (billedAt registers bills map sums) (billedAt registers bills other sums) (λ j l. rw (same j l)) in
-    (λ i. record { full = full i; bills = booked i })
+-- without units the amounts stay as they are
+pub same-amounts : (c : Config) (clock : ℕ) (units amounts : List ℕ) → length amounts ≡ 16 → ((i : ℕ) → i < 16 → unitAt units i ≡ 0)
+    → record { full = false; amounts = amounts } ≡ amountsAt c clock units amounts
+unfolding amountsAt amountsBooked fullAt bookedAmountAt bookedAmount
+same-amounts c clock units amounts size none =
+    let map = forceMapAt (c .program) clock in
+    let sums = sumsOf (c .sums) units in
+    let full = any-none 16 (fullAt (c .registers) amounts map sums) (λ j l. rw (no-due (c .registers) map (c .sums) units none j)) in
+    let same = table-cong 16 (bookedAmountAt (c .registers) amounts map sums) (unitAt amounts) (λ j l. rw (no-due (c .registers) map (c .sums) units none j) (add-zero (unitAt amounts j))) ∙ table-self 16 amounts 0 size in
+    (λ i. record { full = sym full i; amounts = sym same i })
 
--- so the map may be worked out only where it is asked for
-pub map-if-wanted : (registers : List Register) (bills : List Bill) (map r : ℕ) (sums : List ℕ) (wanted : Bool) → wanted ≡ wantsMap registers sums
-    → r ≡ (if wanted then map else 0) → bookedOf registers bills r sums ≡ bookedOf registers bills map sums
-map-if-wanted registers bills map r sums true w e = rw e
-map-if-wanted registers bills map r sums false w e = any-map registers bills r map sums (sym w)
+-- a run that is there and a line that is not active
+not-both : (r a : Bool) → either r (r && a) ≡ (not a && r)
+not-both true true = refl
+not-both true false = refl
+not-both false true = refl
+not-both false false = refl
 
-module _ (c : Config) (clock : ℕ) (lines : List Line) (bills : List Bill) (mask : ℕ) (s : Stepped) (stepped : s ≡ steppedOf (c .inputs) lines mask) where
-  -- what the code returns where no impulse came
-  pub quiet-booking : s .impulses ≡ 0 → length bills ≡ 16
-      → record { full = false; lines = s .lines; bills = bills } ≡ bookingOf c clock lines bills mask
-  quiet-booking e size = rw stepped (no-impulse c clock lines bills mask (sym (rw stepped at e)) size)
+module _ (c : Config) (clock : ℕ) (lines : List Line) (runs : List ℕ) (bills : List Bill) (amounts : List ℕ) (mask running ending busy : ℕ)
+    (runs-are : running ≡ runningLines (withRuns lines runs)) (end-are : ending ≡ bitXor running (bitAnd running mask)) (busy-are : busy ≡ bitOr mask running) where
+  -- a line with a run
+  running-bit : (i : ℕ) → i < 16 → bitAt running i ≡ ltb 0 (getD runs i 0)
+  unfolding runningLines withRuns withRunAt
+  running-bit i l =
+      ap (λ m. bitAt m i) runs-are ∙ (bit-at 16 (runningAt (withRuns lines runs)) i ∙ rw (lt-ltb i 16 l) (ap (λ (x : Line). ltb 0 (x .run)) (table-at 16 (withRunAt lines runs) i _ l)))
 
-  -- and where one came
-  pub busy-booking : (cr : Credits) (sums : List ℕ) (wanted : Bool) (map : ℕ) (bk : Booked)
-      → cr ≡ creditsOf (c .inputs) (s .lines) (s .impulses) → sums ≡ sumsOf (c .sums) (cr .units) → wanted ≡ wantsMap (c .registers) sums
-      → map ≡ (if wanted then forceMapAt (c .program) clock else 0) → bk ≡ bookedOf (c .registers) bills map sums
-      → record { full = bk .full; lines = cr .lines; bills = bk .bills } ≡ bookingOf c clock lines bills mask
-  unfolding bookingOf
-  busy-booking cr sums wanted map bk credits summed wants mapped booked =
-      rw (booked, map-if-wanted (c .registers) bills (forceMapAt (c .program) clock) map sums wanted wants mapped, summed, credits, stepped)
+  -- a line whose run ends
+  ending-bit : (i : ℕ) → i < 16 → bitAt ending i ≡ ends (withRunAt lines runs i) (bitAt mask i)
+  unfolding withRunAt
+  ending-bit i l = rw (end-are, bit-xor running (bitAnd running mask) i, bit-and running mask i, running-bit i l) (not-both (ltb 0 (getD runs i 0)) (bitAt mask i))
+
+  -- a line that is asked
+  busy-bit : (i : ℕ) → i < 16 → bitAt busy i ≡ (bitAt mask i || ltb 0 (getD runs i 0))
+  busy-bit i l = rw (busy-are, bit-or mask running i, running-bit i l)
+
+  -- what a sample books, by its parts
+  pub booked-parts : (cr : Credits) (bk : Amounts) → cr ≡ settledOf (c .inputs) lines runs ending → bk ≡ amountsAt c clock (cr .units) amounts
+      → record { full = bk .full; lines = withRuns (cr .lines) (steppedRuns runs mask busy); bills = withAmounts bills (bk .amounts) }
+      ≡ bookingOf c clock (withRuns lines runs) (withAmounts bills amounts) mask
+  unfolding bookingOf amountsAt
+  booked-parts cr bk settles books =
+      let units = brought (c .inputs) lines runs mask ending busy ending-bit busy-bit in
+      let map = forceMapAt (c .program) clock in
+      let sums = sumsOf (c .sums) (settledOf (c .inputs) lines runs ending .units) in
+      let full = full-parts (c .registers) bills amounts map sums in
+      let same = bills-parts (c .registers) bills amounts map sums in
+      rw (books, settles, units, settled-lines (c .inputs) lines runs mask ending busy ending-bit busy-bit) (λ i. record { full = sym full i; lines = withRuns (settledOf (c .inputs) lines runs ending .lines) (steppedRuns runs mask busy); bills = sym same i })
+
+  -- where no run ends, only the runs go on
+  pub unended-parts : ending ≡ 0 → length lines ≡ 16 → length amounts ≡ 16
+      → record { full = false; lines = withRuns lines (steppedRuns runs mask busy); bills = withAmounts bills amounts }
+      ≡ bookingOf c clock (withRuns lines runs) (withAmounts bills amounts) mask
+  unended-parts none size sizes =
+      let cr = settledOf (c .inputs) lines runs 0 in
+      let bk : record { full = false; amounts = amounts } ≡ amountsAt c clock (cr .units) amounts = same-amounts c clock (cr .units) amounts sizes (none-brought (c .inputs) lines runs) in
+      rw (none-settled (c .inputs) lines runs size) at (booked-parts cr (record { full = false; amounts = amounts }) (rw none) bk)
+
+  -- what a sample that fills no register leaves: the lines apart from their runs, the amounts and the tariffs
+  pub record Left (left : List Line) (open-amounts : List ℕ) (tariffs : Tariffs) : Type 0 where
+    pub books : record { full = false; lines = withRuns left (steppedRuns runs mask busy); bills = withAmounts bills open-amounts } ≡ bookingOf c clock (withRuns lines runs) (withAmounts bills amounts) mask
+    pub lines-sixteen : length left ≡ 16
+    pub amounts-sixteen : length open-amounts ≡ 16
+    pub in-force : InForce (c .program) clock tariffs
+
+  -- where no run ends
+  pub unended : (left : List Line) (open-amounts : List ℕ) (tariffs known : Tariffs) → ending ≡ 0 → length lines ≡ 16 → length amounts ≡ 16 → InForce (c .program) clock known
+      → left ≡ lines → open-amounts ≡ amounts → tariffs ≡ known → Left left open-amounts tariffs
+  unended left open-amounts tariffs known none size sizes force l a t =
+      rw (l, a, t) (record { books = unended-parts none size sizes; lines-sixteen = size; amounts-sixteen = sizes; in-force = force })
+
+  -- where some end, and no register is full
+  pub ended : (left : List Line) (open-amounts : List ℕ) (tariffs known : Tariffs) (cr : Credits) (bk : Amounts) → cr ≡ settledOf (c .inputs) lines runs ending → bk ≡ amountsAt c clock (cr .units) amounts
+      → bk .full ≡ false → InForce (c .program) clock known → left ≡ cr .lines → open-amounts ≡ bk .amounts → tariffs ≡ known → Left left open-amounts tariffs
+  unfolding settledOf amountsAt amountsBooked
+  ended left open-amounts tariffs known cr bk settles books full force l a t =
+      rw (l, a, t)
+      (record {
+        books = rw full at (booked-parts cr bk settles books);
+        lines-sixteen = rw settles (length-table 16 _);
+        amounts-sixteen = rw books (length-table 16 _);
+        in-force = force;
+      })

@@ -2,7 +2,7 @@
 use mathlib.Core.Path.{_≡_, refl, sym, ap, _∙_}
 use mathlib.Core.Bool.{Bool, true, false, not, _&&_, _||_, and-true, and-false}
 use mathlib.Core.List.{List}
-use Prim.Native.Nat.{ℕ, suc, _+_, _^_, _<_, _≤_}
+use Prim.Native.Nat.{ℕ, zero, suc, _+_, _-_, _%_, _^_, _<_, _≤_}
 use native.Mathlib.Nat.{add-zero, lt-of-le-of-lt, le-antisymm}
 use native.Mathlib.Numerals.{add-one}
 use native.Mathlib.Omega.{arith}
@@ -10,7 +10,7 @@ use lib.Dec.{ltb, leb, eqb}
 use lib.Bits.{bitAnd, bitOr, bitXor, and-le-r, or-lt}
 use lib.ListN.{length, getD, drop}
 use lib.Seq.{drop-cons, drop-length}
-use borrow.Author.Tests.{lt-ltb, ltb-true, ltb-false, lt-leb, le-leb, eqb-true, eqb-false}
+use borrow.Author.Tests.{lt-ltb, ltb-true, ltb-false, lt-leb, le-leb, eqb-true, eqb-false, ne-eqb}
 use Rattle.laws.specs.Tests.{by-test, and-left, and-right}
 use Rattle.laws.specs.Answers.{given, refused}
 use Rattle.laws.specs.Masks.{maskOf, bitAt, bit-at, bit-zero, mask-below, mask-cong, mask-ext, mask-zero}
@@ -18,15 +18,19 @@ use Rattle.laws.specs.BitTests.{either, bit-and, bit-or, bit-xor}
 use Rattle.laws.specs.Tables.{table, table-at, table-cong, table-self, length-table}
 use Rattle.settings.specs.declared.Config.{Config}
 use Rattle.settings.specs.declared.Input.{Input}
-use Rattle.counting.specs.Filter.{inputAt, lineAt, active, nextRun, ends, fitting, oneMore, accepted, filtered, filteredAt, acceptedAt, steppedOf, kindAt, kindMask, runningAt, runningLines}
+use Rattle.counting.specs.Filter.{inputAt, lineAt, active, nextRun, ends, fitting, oneMore, accepted, filtered, filteredAt, acceptedAt, steppedOf, kindAt, kindMask, runningAt, runningLines, withRunAt, withRuns}
 use Rattle.counting.specs.Units.{credited, creditIf, creditedAt, creditsOf}
 use Rattle.counting.specs.Bills.{bookedOf}
-use Rattle.sampling.specs.Periods.{multiple, cleared, clearedAt, clearedLines, tickOf}
-use Rattle.sampling.specs.Samples.{bookingOf, activeAt, activeLines, putIn, countedOf, sampleOf, Run, samplesOf}
+use Rattle.counting.proofs.Parts.{level0-parts}
+use Rattle.tariff.specs.declared.Program.{Program}
+use Rattle.tariff.proofs.Minutes.{next-same}
+use Rattle.sampling.specs.Periods.{multiple, cleared, clearedAt, clearedLines, closedAs, closedRest, tickOf}
+use Rattle.sampling.specs.Kept.{InForce, agedTo, roomOf}
+use Rattle.sampling.specs.declared.booking.Tariffs.{Tariffs}
+use Rattle.sampling.specs.Samples.{Booking, bookingOf, activeAt, activeLines, putIn, countedOf, sampleOf, Run, samplesOf}
 use Rattle.counting.specs.declared.Line.{Line}
 use Rattle.counting.specs.declared.Bill.{Bill}
 use Rattle.sampling.specs.declared.State.{State}
-use Rattle.sampling.specs.declared.booking.Booking.{Booking}
 use Rattle.sampling.proofs.Books.{no-impulse}
 
 -- the test of an active line, by the two masks of kinds
@@ -144,19 +148,6 @@ runs-after c clock lines bills bits =
     mask-cong 16 (runningAt (table 16 (creditedAt (c .inputs) stepped impulses))) (activeAt (c .inputs) bits)
     (λ i l. rw (table-at 16 (creditedAt (c .inputs) stepped impulses) i _ l) (run-at (c .inputs) lines bits impulses i l))
 
--- the step leaves the runs
-pub runs-ticked : (c : Config) (s : State) → runningLines (tickOf c s .lines) ≡ runningLines (s .lines)
-unfolding tickOf runningLines clearedLines clearedAt cleared
-runs-ticked c s =
-    by-test (multiple (c .period) (s .clock + 1))
-    (λ e. rw e (mask-cong 16 (runningAt (table 16 (clearedAt (s .lines)))) (runningAt (s .lines)) (λ i l. rw (table-at 16 (clearedAt (s .lines)) i _ l))))
-    (λ e. rw e)
-
--- the step makes a new second with no samples, and leaves the bills
-pub ticked : (c : Config) (s : State) → putIn (tickOf c s) (tickOf c s .clock) 0 (tickOf c s .lines) (s .bills) ≡ tickOf c s
-unfolding tickOf
-ticked c s = by-test (multiple (c .period) (s .clock + 1)) (λ e. rw e) (λ e. rw e)
-
 -- the samples of a run that went before, counted in
 abbrev pub later : ℕ → Run → Run
 later k r = record { taken = k + r .taken; number = r .number; state = r .state }
@@ -227,34 +218,65 @@ module _ (c : Config) (rest : State) (clock count : ℕ) (lines : List Line) (bi
     unfolding bookingOf bookedOf
     bills-after = rw booked (length-table 16 _)
 
-module _ (c : Config) (s t : State) (step : t ≡ tickOf c s) where
-  -- a state after the step, put together from its parts
-  pub ticked-parts : putIn t (t .clock) 0 (t .lines) (s .bills) ≡ tickOf c s
-  ticked-parts = rw step (ticked c s)
+-- a new period begins with the runs that there are
+cleared-parts : (lines : List Line) (runs : List ℕ) → clearedLines (withRuns lines runs) ≡ withRuns (clearedLines lines) runs
+unfolding clearedLines clearedAt cleared withRuns withRunAt
+cleared-parts lines runs =
+    table-cong 16 _ _
+    (λ i l. rw (whole i l, alone i l))
+  where
+    whole : (i : ℕ) → i < 16 → lineAt (table 16 (withRunAt lines runs)) i ≡ withRunAt lines runs i
+    whole i l = table-at 16 (withRunAt lines runs) i _ l
 
-  -- the step leaves the runs
-  pub ticked-runs : runningLines (s .lines) ≡ runningLines (t .lines)
-  ticked-runs = rw step (sym (runs-ticked c s))
+    alone : (i : ℕ) → i < 16 → lineAt (table 16 (clearedAt lines)) i ≡ clearedAt lines i
+    alone i l = table-at 16 (clearedAt lines) i _ l
 
-  -- and 16 lines
-  pub ticked-lines : length (s .lines) ≡ 16 → length (t .lines) ≡ 16
-  unfolding tickOf clearedLines
-  ticked-lines h = rw step (by-test (multiple (c .period) (s .clock + 1)) (λ e. rw e (length-table 16 _)) (λ e. rw e h))
-
-  -- the clock is one second on
-  pub ticked-clock : t .clock ≡ s .clock + 1
+module _ (c : Config) (rest : State) (clock count : ℕ) (lines : List Line) (runs : List ℕ) (bills : List Bill) where
+  -- the step inside a period
+  pub step-on : multiple (c .period) (clock + 1) ≡ false
+      → tickOf c (putIn rest clock count (withRuns lines runs) bills) ≡ putIn rest (clock + 1) 0 (withRuns lines runs) bills
   unfolding tickOf
-  ticked-clock = rw step (by-test (multiple (c .period) (s .clock + 1)) (λ e. rw e) (λ e. rw e))
+  step-on e = rw e
+
+  -- the step that closes a period
+  pub step-closes : multiple (c .period) (clock + 1) ≡ true
+      → tickOf c (putIn rest clock count (withRuns lines runs) bills) ≡ putIn (closedRest c rest (clock + 1) lines) (clock + 1) 0 (withRuns (clearedLines lines) runs) bills
+  unfolding tickOf closedRest closedAs
+  step-closes e = rw (e, cleared-parts lines runs, level0-parts lines runs)
+
+-- the runs are those of before a new period
+pub runs-cleared : (lines : List Line) (runs : List ℕ) → runningLines (withRuns (clearedLines lines) runs) ≡ runningLines (withRuns lines runs)
+unfolding runningLines withRuns withRunAt
+runs-cleared lines runs = mask-cong 16 _ _ (λ i l. ap (λ (x : Line). ltb 0 (x .run)) (table-at 16 (withRunAt (clearedLines lines) runs) i _ l) ∙ sym (ap (λ (x : Line). ltb 0 (x .run)) (table-at 16 (withRunAt lines runs) i _ l)))
+
+-- tariffs that are known at a second are those of the next one, but for a new minute
+pub aged-in-force : (p : Program) (clock : ℕ) (tariffs : Tariffs) → InForce p clock tariffs → InForce p (clock + 1) (agedTo (clock + 1) tariffs)
+aged-in-force p clock tariffs known e =
+    let now = known (and-left (tariffs .known) _ e) in
+    let later = ltb-true 0 ((clock + 1) % 60) (and-right (tariffs .known) _ e) in
+    now ∙ sym (next-same p clock (ne-eqb ((clock + 1) % 60) 0 (λ z. omega arith)))
 
 -- where the second is full and the clock not at its end, it can step
 pub not-at-end : (clock count : ℕ) → (eqb clock 4_294_967_295 && leb 99 count) ≡ false → 99 ≤ count → clock ≤ 4_294_967_295 → clock < 4_294_967_295
 not-at-end clock count e h l = let n = eqb-false clock 4_294_967_295 (sym (and-true _) ∙ rw (le-leb 99 count h) at e) in omega arith
 
--- the code's test of an idle sample, in its parts
-pub idle-test : (count mask running : ℕ) → (ltb count 99 && (eqb mask 0 && eqb running 0)) ≡ true → (count < 99) × (mask ≡ 0) × (running ≡ 0)
-idle-test count mask running e =
-    let idle = and-right (ltb count 99) (eqb mask 0 && eqb running 0) e in (
-      ltb-true count 99 (and-left (ltb count 99) _ e),
-      eqb-true mask 0 (and-left (eqb mask 0) _ idle),
-      eqb-true running 0 (and-right (eqb mask 0) _ idle),
-    )
+-- where samples only count, no line has a run, and the second is not full
+pub few : (running count room n : ℕ) → room ≡ roomOf running count → n ≤ room → 0 < n → (running ≡ 0) × (count + n ≤ 99)
+few running count room n e h p =
+    by-test (eqb running 0)
+    (λ t. let r : room ≡ 99 - count = rw t at e in (eqb-true running 0 t, omega arith))
+    (λ f. let r : room ≡ 0 = rw f at e in absurd (omega arith))
+
+-- samples with no line active and no run to end only count
+pub idle-on : (c : Config) (start rest : State) (clock count : ℕ) (lines : List Line) (bills : List Bill) (bits : List ℕ) (k n : ℕ)
+    → samplesOf c start bits ≡ later k (samplesOf c (putIn rest clock count lines bills) (drop k bits))
+    → k + n ≤ length bits → count + n ≤ 99 → ((j : ℕ) → j < n → 0 ≡ activeLines (c .inputs) (getD bits (k + j) 0)) → runningLines lines ≡ 0 → length lines ≡ 16 → length bills ≡ 16
+    → samplesOf c start bits ≡ later (k + n) (samplesOf c (putIn rest clock (count + n) lines bills) (drop (k + n) bits))
+idle-on c start rest clock count lines bills bits k zero so-far h room idle none size sizes = rw (add-zero k, add-zero count) so-far
+idle-on c start rest clock count lines bills bits k (suc n) so-far h room idle none size sizes =
+    let before = idle-on c start rest clock count lines bills bits k n so-far (omega arith) (omega arith) (λ j l. idle j (omega arith)) none size sizes in
+    let one = sample-idle c rest clock (count + n) lines bills (getD bits (k + n) 0) (omega arith) (idle n (omega arith)) none size sizes in
+    let next = run-on c start (putIn rest clock (count + n) lines bills) bits (k + n) before _ (omega arith) one in
+    let there : k + n + 1 ≡ k + suc n = omega arith in
+    let counted : count + n + 1 ≡ count + suc n = omega arith in
+    rw (there, counted) at next

@@ -19,7 +19,12 @@ use Rattle.sampling.specs.declared.SampleAnswer.the-variants.{Taken, Clo
 use Rattle.sampling.specs.declared.samples.Taking.{Taking}
 use Rattle.counting.specs.declared.Line.{Line}
 use Rattle.counting.specs.declared.Bill.{Bill}
-use Rattle.sampling.specs.declared.booking.Booking.{Booking}
+
+-- what a sample books: FULL in some register, the lines and the bills
+pub record Booking : Type 0 where
+  pub full : Bool
+  pub lines : List Line
+  pub bills : List Bill
 
 -- what a sample books at a clock, given the mask of active lines: filter, units, sums, tariff at the present second, bills
 unfoldable pub bookingOf : Config → ℕ → List Line → List Bill → ℕ → Booking

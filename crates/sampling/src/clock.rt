@@ -5,8 +5,7 @@ use crate::State;
 use counting::levels::level9;
 use settings::Config;
 ghost use mathlib.Core.Path.{_≡_};
-ghost use Prim.Native.Nat.{_<_};
-ghost use Rattle.sampling.specs.Periods.{multiple, clearedLines, stateOf, closedAs, tickOf};
+ghost use Rattle.sampling.specs.Periods.{multiple, clearedLines, stateOf, closedAs, closedRest};
 
 // Whether a time is a multiple of the period's seconds. No image has a period of 0 minutes; one that had would have no multiple.
 pub(crate) fn is_multiple(period: u8, time: u32) -> bool
@@ -58,23 +57,13 @@ fn step_state(period: u8, first: u32) -> u8
     1
 }
 
-// The step after the hundredth sample; on a multiple of the period's seconds the period closes.
-pub(crate) fn tick(config: Config, state: State) -> State
-    requires { ⌜ state .clock < 4294967295 ⌝ }
-    ensures { λ r. ⌜ r ≡ tickOf config state ⌝ }
+// The rest of a state whose period closes with the step to a new second.
+pub(crate) fn close_rest(config: Config, rest: State, clock: u32, lines: [Line; 16]) -> State
+    ensures { λ r. ⌜ r ≡ closedRest config rest clock lines ⌝ }
 {
-    let clock = state.clock + 1;
-    let mut next = state;
-    next.clock = clock;
-    next.samples = 0;
-    if is_multiple(config.period, clock) {
-        let lines = state.lines;
-        let closed = close_period(config, step_state(config.period, state.first), clock, lines);
-        let fresh = cleared(lines);
-        next.closed = closed;
-        next.lines = fresh;
-        next.first = clock;
-        return next;
-    }
+    let mut next = rest;
+    let closed = close_period(config, step_state(config.period, rest.first), clock, lines);
+    next.closed = closed;
+    next.first = clock;
     next
 }

@@ -1,15 +1,28 @@
-// A run of samples. What changes with nearly every sample is kept in variables of its own; the rest of the state is touched when a second ends.
+// A run of samples. What changes with nearly every sample is kept in variables of its own; the rest of the state is touched when a period closes.
 use crate::Bill;
 use crate::Line;
 use crate::SampleAnswer;
 use crate::State;
+use crate::booking::Tariffs;
+use crate::booking::aged;
 use crate::booking::book;
-use crate::clock::tick;
+use crate::clock::cleared;
+use crate::clock::close_rest;
+use crate::clock::is_multiple;
+use counting::bills::amounts_of;
+use counting::bills::put_amounts;
 use counting::filter::kind_mask;
+use counting::filter::put_runs;
 use counting::filter::running_lines;
+use counting::filter::runs_of;
+use counting::filter::step_runs;
+use counting::units::settle;
 use settings::Config;
 ghost use mathlib.Core.Path.{_≡_};
+ghost use Prim.Native.Nat.{_+_, _≤_};
+ghost use lib.ListN.{length};
 ghost use Rattle.sampling.specs.Samples.{putIn, endedAs, samplesOf, said};
+ghost use Rattle.sampling.specs.Kept.{roomOf, Idle};
 
 pub struct Taking {
     pub taken: usize,
@@ -48,46 +61,116 @@ fn ended(
     }
 }
 
-// The samples one after another, up to the first refusal. A sample with no line active and no run to end only counts, unless it is the hundredth.
+// How many samples may only count: none where a line has a run, else up to the hundredth.
+fn room(running: u16, count: u8) -> usize
+    ensures { λ r. ⌜ r ≡ roomOf running count ⌝ }
+{
+    if running > 0 {
+        return 0;
+    }
+    if count >= 99 {
+        return 0;
+    }
+    (99 - count) as usize
+}
+
+// The end of the samples from k on, at most `room` of them.
+fn end_of(length: usize, k: usize, room: usize) -> usize
+    requires { ⌜ k ≤ length ⌝ }
+    ensures { λ r. ⌜ (k ≤ r) × (r ≤ length) × (r ≤ k + room) ⌝ }
+{
+    if length - k < room {
+        return length;
+    }
+    k + room
+}
+
+// How many of the samples from k on, at most `room`, have no line active.
+fn idle_samples(bits: &[u16], k: usize, room: usize, fitted: u16, s1r: u16) -> usize
+    requires { ⌜ k ≤ length (now bits) ⌝ }
+    ensures { λ r. ⌜ (r ≤ room) × (k + r ≤ length (now (bits .entry))) × Idle (now (bits .entry)) fitted s1r k r ⌝ }
+{
+    let end = end_of(bits.len(), k, room);
+    let mut at = k;
+    while at < end {
+        if ((bits[at] ^ s1r) & fitted) > 0 {
+            return at - k;
+        }
+        at += 1;
+    }
+    at - k
+}
+
+// The samples one after another, up to the first refusal. Runs and open amounts are kept as numbers, and the runs are advanced in place.
 pub fn take(config: Config, start: State, bits: &[u16]) -> Taking
     ensures { λ r. ⌜ said r ≡ samplesOf config start (now (bits .entry)) ⌝ }
 {
     let inputs = config.inputs;
     let s1r = kind_mask(inputs, 2);
     let fitted = kind_mask(inputs, 1) | s1r;
+    let bills = start.bills;
     let mut rest = start;
     let mut clock = start.clock;
     let mut count = start.samples;
     let mut lines = start.lines;
-    let mut bills = start.bills;
+    let mut runs = runs_of(lines);
+    let mut amounts = amounts_of(bills);
     let mut running = running_lines(lines);
+    let mut tariffs = Tariffs {
+        known: false,
+        map: 0,
+    };
+    let mut answer = SampleAnswer::Taken;
     let mut k: usize = 0;
     while k < bits.len() {
-        let active = ((bits[k] as u32) ^ s1r) & fitted;
-        if (count < 99) & ((active == 0) & (running == 0)) {
-            count += 1;
-            k += 1;
+        let idle = idle_samples(bits, k, room(running, count), fitted, s1r);
+        if idle > 0 {
+            count += idle as u8;
+            k += idle;
             continue;
         }
         if (clock == 4294967295) & (99 <= count) {
-            return ended(rest, clock, count, lines, bills, k, SampleAnswer::ClockEnd);
+            answer = SampleAnswer::ClockEnd;
+            break;
         }
-        let booking = book(config, clock, lines, bills, active);
-        if booking.full {
-            return ended(rest, clock, count, lines, bills, k, SampleAnswer::Full);
+        let active = (bits[k] ^ s1r) & fitted;
+        let ending = running ^ (running & active);
+        if ending > 0 {
+            let credits = settle(inputs, lines, &runs, ending);
+            let units = credits.units;
+            let booking = book(config, clock, units, amounts, tariffs);
+            let booked = booking.booked;
+            if booked.full {
+                answer = SampleAnswer::Full;
+                break;
+            }
+            lines = credits.lines;
+            amounts = booked.amounts;
+            tariffs = booking.tariffs;
         }
-        lines = booking.lines;
-        bills = booking.bills;
+        step_runs(&mut runs, active, active | running);
         running = active;
         k += 1;
         if count < 99 {
             count += 1;
             continue;
         }
-        rest = tick(config, put_in(rest, clock, count, lines, bills));
-        clock = rest.clock;
+        clock += 1;
         count = 0;
-        lines = rest.lines;
+        tariffs = aged(tariffs, clock);
+        if is_multiple(config.period, clock) {
+            rest = close_rest(config, rest, clock, lines);
+            let fresh = cleared(lines);
+            lines = fresh;
+        }
     }
-    ended(rest, clock, count, lines, bills, k, SampleAnswer::Taken)
+    ended(
+        rest,
+        clock,
+        count,
+        put_runs(lines, runs),
+        put_amounts(bills, amounts),
+        k,
+        answer,
+    )
 }

@@ -1,29 +1,36 @@
--- `counting::bills::sums_units` meets its contract. The loop's invariant: the sums before k stand in their places.
-use mathlib.Core.Path.{_≡_, refl}
+-- `counting::bills::sums_units` meets its contract. The loop's invariant: the totals are the sums' units of the inputs before i.
+use mathlib.Core.Path.{_≡_, _∙_}
+use mathlib.Core.Logic.{⊎-elim}
 use Prim.Native.Nat.{_-_, _≤_}
 use native.Mathlib.Omega.{arith}
 use borrow.Author.Needs.{needs}
-use Rattle.laws.specs.Tables.{fillTo, fill-none, fill-more, fill-done}
-use Rattle.counting.specs.Bills.{sumAt, sumsOf}
+use Rattle.counting.proofs.Sums.{sumsTo, sums-none, sums-more, sums-skip, sums-done, sums-long, sums-below}
 use Rattle.counting.proofs.bills.sums_units.Statement.{statement}
 use Rattle.counting.proofs.bills.sums_units.Tie as tie
 
 abbrev Inv-loop : tie.InvT-loop
-Inv-loop units sums totals₀ k₀ totals k = (k ≤ 8) × (totals ≡ fillTo (sumAt sums units) k totals₀)
+Inv-loop sums units totals₀ i₀ totals i = (i ≤ 16) × (totals ≡ sumsTo sums units i)
 
 abbrev μ-loop : tie.MeasureT-loop
-μ-loop units sums totals₀ k₀ totals k = 8 - k
+μ-loop sums units totals₀ i₀ totals i = 16 - i
 
 loop-holds : tie.Need-loop-holds Inv-loop μ-loop
-loop-holds c = (search needs, fill-none _ _)
+loop-holds c = (search needs, sums-none _ _)
+
+add-units-requires : tie.Need-add-units-requires Inv-loop μ-loop
+add-units-requires c κs =
+    let i = c .before .before .before .loop .inv .1 in
+    (sums-long _ _ _ _ i, sums-below _ _ _ _ i (search needs) (λ j. search needs))
 
 loop-again : tie.Need-loop-again Inv-loop μ-loop
-unfolding sumAt
-loop-again c = (omega arith, fill-more _ _ _ _ _ (c .before .before .loop .inv .1) (c .sum-units .ensures .0))
+loop-again c =
+    let i = c .before .before .loop .inv .1 in (
+      omega arith,
+      ⊎-elim (λ w. w .3 ∙ w .2 .ensures ∙ sums-more _ _ _ _ i) (λ w. w .1 ∙ sums-skip _ _ _ _ i (omega (arith, w .0 .left))) (c .if1 .came),
+    )
 
 returns : tie.Need-returns Inv-loop μ-loop
-unfolding sumsOf
-returns c = fill-done _ 8 _ _ _ (c .before .loop .inv .1) (c .before .loop .inv .0) (c .loop-test .left) refl
+returns c = sums-done _ _ _ _ (c .before .loop .inv .1) (c .before .loop .inv .0) (c .loop-test .left)
 
 pub sums-units-spec : {M : Type 1} → statement M
 sums-units-spec =
@@ -34,9 +41,9 @@ sums-units-spec =
     loop-holds
     (λ c. search needs)
     (λ c. search needs)
-    (λ c κs. search needs)
     (λ c. search needs)
     (λ c. search needs)
+    add-units-requires
     (λ c. search needs)
     (λ c. search needs)
     loop-again

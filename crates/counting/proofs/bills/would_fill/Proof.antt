@@ -3,27 +3,16 @@ use Prim.Native.Nat.{_+_, _<_}
 use native.Mathlib.Omega.{arith}
 use borrow.Author.Tests.{lt-ltb}
 use borrow.Author.Needs.{needs}
-use Rattle.counting.specs.Bills.{fills}
 use Rattle.counting.proofs.bills.would_fill.Statement.{statement}
 use Rattle.counting.proofs.bills.would_fill.Tie as tie
 
 returns : tie.Need-returns
-unfolding fills
 returns c =
     let a = c .before .args in
     let some : 0 < a .due = omega arith in
-    let past : 999_999_999 < a .bill .amount + a .due = omega arith in
-    rw (lt-ltb 0 (a .due) some, lt-ltb 999_999_999 (a .bill .amount + a .due) past)
-
-returns-2 : tie.Need-returns-2
-unfolding fills
-returns-2 c = search needs
+    let past : 999_999_999 < a .amount + a .due = omega arith in
+    rw (lt-ltb 0 (a .due) some, lt-ltb 999_999_999 (a .amount + a .due) past)
 
 pub would-fill-spec : {M : Type 1} → statement M
 would-fill-spec =
-    tie.close
-    (tie.spec
-    returns
-    (λ c. search needs)
-    (λ c. search needs)
-    returns-2)
+    tie.close (tie.spec returns (λ c. search needs) (λ c. search needs))

@@ -1,4 +1,4 @@
--- `counting::filter::is_on` meets its contract: past bit 31 a mask of 32 bits has none.
+-- `counting::filter::is_on` meets its contract: past bit 15 a mask of 16 bits has none.
 use native.Mathlib.Nat.{div-eq-of-lt, lt-of-lt-of-le}
 use borrow.Author.Needs.{needs}
 use lib.Pow.{pow-mono}

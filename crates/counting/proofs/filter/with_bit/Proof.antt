@@ -10,10 +10,10 @@ use Rattle.counting.proofs.filter.with_bit.Tie as tie
 add-result : tie.Need-add-result
 add-result c =
     let place = c .before .args .place in
-    record { fits = rw (shl-is place 32 (c .before .pre .0)) (omega (arith, pow-suc 2 place, pow-mono (c .before .pre .0))) }
+    record { fits = rw (shl-is place 16 (c .before .pre .0)) (omega (arith, pow-suc 2 place, pow-mono (c .before .pre .0))) }
 
 returns : tie.Need-returns
-returns c = rw (c .if1 .taken, shl-is (c .before .args .place) 32 (c .before .pre .0), one-mul)
+returns c = rw (c .if1 .taken, shl-is (c .before .args .place) 16 (c .before .pre .0), one-mul)
 
 returns-2 : tie.Need-returns-2
 returns-2 c = rw (c .if1 .left, zero-mul, zero-add)

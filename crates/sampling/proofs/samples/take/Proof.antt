@@ -1,125 +1,178 @@
 -- `sampling::samples::take` meets its contract. The loop's invariant: what is left to take from the state put together of its parts, counted on from k, is the whole run.
 use mathlib.Core.Path.{_≡_, refl, sym, _∙_}
-use Prim.Native.Nat.{_-_, _≤_}
+use mathlib.Core.Bool.{true≢false}
+use mathlib.Core.Logic.{⊎-elim}
+use mathlib.Core.List.{List}
+use Prim.Native.Nat.{ℕ, _+_, _-_, _<_, _≤_}
 use native.Mathlib.Omega.{arith}
 use native.Mathlib.Nat.{zero-add}
 use lib.Bits.{bitAnd, bitOr, bitXor}
 use lib.ListN.{length, getD, drop}
-use lib.Dec.{ltb}
-use borrow.Author.Tests.{ltb-true}
 use borrow.Author.Needs.{needs}
-use Rattle.laws.specs.Tests.{and-left}
 use Rattle.laws.specs.Arrays.{length-mapped}
-use Rattle.counting.specs.Filter.{runningLines}
-use Rattle.sampling.specs.Periods.{tickOf}
-use Rattle.sampling.specs.Samples.{activeLines, putIn, samplesOf}
-use Rattle.sampling.proofs.Turns.{later, active-mask, run-on, run-refused, run-done, sample-idle, sample-end, sample-full, sample-counted, sample-ticked, running-after, lines-after, bills-after, ticked-parts, ticked-runs, ticked-lines, ticked-clock, not-at-end, idle-test}
+use Rattle.laws.specs.Tables.{length-table}
+use Rattle.counting.specs.Filter.{runningLines, withRuns, steppedRuns}
+use Rattle.counting.specs.Bills.{withAmounts}
+use Rattle.sampling.specs.Periods.{clearedLines}
+use Rattle.sampling.specs.Samples.{activeLines, putIn, samplesOf, numberOf}
+use Rattle.sampling.specs.Kept.{InForce}
+use Rattle.counting.specs.declared.Line.{Line}
+use Rattle.sampling.specs.declared.booking.Tariffs.{Tariffs}
+use Rattle.sampling.specs.declared.SampleAnswer.the-variants.{Taken}
+use Rattle.counting.proofs.Parts.{own-runs, own-amounts}
+use Rattle.sampling.proofs.Books.{booked-parts, Left, unended, ended}
+use Rattle.sampling.proofs.Turns.{later, active-mask, run-on, run-refused, run-done, sample-end, sample-full, sample-counted, sample-ticked, running-after, step-on, step-closes, runs-cleared, aged-in-force, few, idle-on, not-at-end}
 use Rattle.sampling.proofs.samples.take.Statement.{statement}
 use Rattle.sampling.proofs.samples.take.Tie as tie
 
 abbrev Inv-loop : tie.InvT-loop
-Inv-loop config bits s1r fitted rest₀ clock₀ count₀ lines₀ bills₀ running₀ k₀ rest clock count lines bills running k =
+Inv-loop config bits inputs s1r fitted bills rest₀ clock₀ count₀ lines₀ runs₀ amounts₀ running₀ tariffs₀ answer₀ k₀ rest clock count lines runs amounts running tariffs answer k =
     (k ≤ length bits)
-    × (samplesOf config rest₀ bits ≡ later k (samplesOf config (putIn rest clock count lines bills) (drop k bits)))
-    × (running ≡ runningLines lines)
+    × (samplesOf config rest₀ bits ≡ later k (samplesOf config (putIn rest clock count (withRuns lines runs) (withAmounts bills amounts)) (drop k bits)))
+    × (running ≡ runningLines (withRuns lines runs))
     × (length lines ≡ 16)
-    × (length bills ≡ 16)
+    × (length amounts ≡ 16)
     × (clock ≤ 4_294_967_295)
+    × InForce (config .program) clock tariffs
+    × (answer ≡ Taken)
 
 abbrev μ-loop : tie.MeasureT-loop
-μ-loop config bits s1r fitted rest₀ clock₀ count₀ lines₀ bills₀ running₀ k₀ rest clock count lines bills running k = length bits - k
+μ-loop config bits inputs s1r fitted bills rest₀ clock₀ count₀ lines₀ runs₀ amounts₀ running₀ tariffs₀ answer₀ k₀ rest clock count lines runs amounts running tariffs answer k = length bits - k
 
 -- the mask of active lines, in a turn
-on : (c : tie.After-shared-slice-known2 Inv-loop μ-loop)
-    → bitAnd (bitXor (getD (c .before .before .before .before .before .before .before .before .before .before .args .bits .now) (c .before .before .loop .k) 0) (c .before .before .before .before .before .before .before .kind-mask .result)) (bitOr (c .before .before .before .before .before .before .kind-mask2 .result) (c .before .before .before .before .before .before .before .kind-mask .result))
-    ≡ activeLines (c .before .before .before .before .before .before .before .before .before .before .args .config .inputs) (getD (c .before .before .before .before .before .before .before .before .before .before .args .bits .now) (c .before .before .loop .k) 0)
-on c = active-mask _ _ _ _ _ (c .before .before .before .before .before .before .kind-mask2 .ensures) (c .before .before .before .before .before .before .before .kind-mask .ensures) refl
+abbrev mask : tie.After-shared-slice-known2 Inv-loop μ-loop → ℕ
+mask s = bitAnd (bitXor (getD (s .before .before .before .before .before .before .before .before .before .before .before .before .before .before .before .before .args .bits .now) (s .before .before .before .before .before .before .loop .k) 0) (s .before .before .before .before .before .before .before .before .before .before .before .before .before .kind-mask .result)) (bitOr (s .before .before .before .before .before .before .before .before .before .before .before .before .kind-mask2 .result) (s .before .before .before .before .before .before .before .before .before .before .before .before .before .kind-mask .result))
+
+-- it is the definition's
+on : (s : tie.After-shared-slice-known2 Inv-loop μ-loop) → mask s ≡ activeLines (s .before .before .before .before .before .before .before .before .before .before .before .before .before .before .before .before .args .config .inputs) (getD (s .before .before .before .before .before .before .before .before .before .before .before .before .before .before .before .before .args .bits .now) (s .before .before .before .before .before .before .loop .k) 0)
+on s = active-mask _ _ _ _ _ (s .before .before .before .before .before .before .before .before .before .before .before .before .kind-mask2 .ensures) (s .before .before .before .before .before .before .before .before .before .before .before .before .before .kind-mask .ensures) refl
+
+-- what a turn leaves after the runs that end
+abbrev Turned : (s : tie.After-shared-slice-known2 Inv-loop μ-loop) → List Line → List ℕ → Tariffs → Type 0
+Turned s =
+    let l = s .before .before .before .before .before .before .loop in
+    let a = s .before .before .before .before .before .before .before .before .before .before .before .before .before .before .before .before .args in
+    Left (a .config) (l .clock) (l .lines) (l .runs) (a .start .bills) (l .amounts) (mask s) (l .running) (bitXor (l .running) (bitAnd (l .running) (mask s))) (bitOr (mask s) (l .running)) (l .inv .2) refl refl
+
+joined : (c : tie.Joined3 Inv-loop μ-loop) → Turned (c .before) (c .if3 .lines) (c .if3 .amounts) (c .if3 .tariffs)
+joined c =
+    let s = c .before in
+    let l = s .before .before .before .before .before .before .loop in
+    let a = s .before .before .before .before .before .before .before .before .before .before .before .before .before .before .before .before .args in
+    let i = l .inv in
+    ⊎-elim
+    (λ w. ended (a .config) (l .clock) (l .lines) (l .runs) (a .start .bills) (l .amounts) (mask s) (l .running) (bitXor (l .running) (bitAnd (l .running) (mask s))) (bitOr (mask s) (l .running)) (i .2) refl refl
+    (c .if3 .lines) (c .if3 .amounts) (c .if3 .tariffs) (w .4 .result .tariffs) (w .2 .result) (w .4 .result .booked) (w .2 .ensures) (w .4 .ensures .0) (w .6 .left) (w .4 .ensures .1) (w .10) (w .11) (w .12))
+    (λ e. unended (a .config) (l .clock) (l .lines) (l .runs) (a .start .bills) (l .amounts) (mask s) (l .running) (bitXor (l .running) (bitAnd (l .running) (mask s))) (bitOr (mask s) (l .running)) (i .2) refl refl
+    (c .if3 .lines) (c .if3 .amounts) (c .if3 .tariffs) (l .tariffs) (omega (arith, e .0 .left)) (i .3) (i .4) (i .6) (e .1) (e .2) (e .3))
+    (c .if3 .came)
 
 loop-holds : tie.Need-loop-holds Inv-loop μ-loop
-loop-holds c = (search needs, rw zero-add, c .running-lines .ensures, search (needs, length-mapped), search (needs, length-mapped), search needs)
+loop-holds c =
+    let a = c .before .before .before .before .before .before .before .before .before .args in
+    let runs = own-runs (a .start .lines) (search (needs, length-mapped)) in
+    let amounts = own-amounts (a .start .bills) (search (needs, length-mapped)) in
+    (search needs, rw (c .before .before .runs-of .ensures, c .before .amounts-of .ensures, runs, amounts, zero-add), rw (c .before .before .runs-of .ensures, runs) (c .running-lines .ensures), search (needs, length-mapped), search (needs, length-mapped), search needs, λ e. absurd (true≢false (sym e)), refl)
 
-cast-active : tie.Need-cast-active Inv-loop μ-loop
-cast-active c = omega (arith, c .shared-slice-known2 .given (c .before .before .loop .k))
+-- where samples only count, no line has a run, and the second is not full
+still : (c : tie.Then1 Inv-loop μ-loop) → (c .before .before .before .before .loop .running ≡ 0) × (c .before .before .before .before .loop .count + c .before .idle-samples .result ≤ 99)
+still c = few (c .before .before .before .before .loop .running) (c .before .before .before .before .loop .count) (c .before .before .room .result) (c .before .idle-samples .result) (c .before .before .room .ensures) (c .before .idle-samples .ensures .0) (c .if1 .taken)
+
+cast-count : tie.Need-cast-count Inv-loop μ-loop
+cast-count c = record { fits = omega (arith, still c .1) }
 
 add-count : tie.Need-add-count Inv-loop μ-loop
-add-count c = let n = c .before .before .before .loop .count in let few = ltb-true n 99 (and-left (ltb n 99) _ (c .if1 .taken)) in omega arith
+add-count c = record { fits = omega (arith, still c .1) }
+
+add-k : tie.Need-add-k Inv-loop μ-loop
+add-k c = search (needs, c .before .idle-samples .ensures .1)
+
+loop-less : tie.Need-loop-less Inv-loop μ-loop
+loop-less c = omega (arith, c .if1 .taken, c .before .idle-samples .ensures .1)
 
 loop-again : tie.Need-loop-again Inv-loop μ-loop
+unfolding withRuns withAmounts
 loop-again c =
-    let l = c .before .before .before .loop in
-    let a = c .before .before .before .before .before .before .before .before .before .before .before .args in
+    let l = c .before .before .before .before .loop in
+    let a = c .before .before .before .before .before .before .before .before .before .before .before .before .before .before .args in
     let i = l .inv in
-    let s = putIn (l .rest) (l .clock) (l .count) (l .lines) (l .bills) in
-    let t = idle-test _ _ _ (c .if1 .taken) in
-    let idle = sample-idle (a .config) (l .rest) (l .clock) (l .count) (l .lines) (l .bills) (getD (a .bits .now) (l .k) 0) (t .0) (sym (t .1) ∙ on (c .before)) (sym (i .2) ∙ t .2) (i .3) (i .4) in
-    (omega arith, run-on (a .config) (a .start) s (a .bits .now) (l .k) (i .1) _ (c .before .before .loop-test .taken) idle, i .2, i .3, i .4, i .5)
+    let e = c .before .idle-samples .ensures in
+    let idle : (j : ℕ) → j < c .before .idle-samples .result → 0 ≡ activeLines (a .config .inputs) (getD (a .bits .now) (l .k + j) 0) = λ j h. sym (e .2 j h) ∙ active-mask _ _ _ _ _ (c .before .before .before .before .before .before .before .before .before .before .kind-mask2 .ensures) (c .before .before .before .before .before .before .before .before .before .before .before .kind-mask .ensures) refl in
+    (e .1, idle-on (a .config) (a .start) (l .rest) (l .clock) (l .count) _ _ (a .bits .now) (l .k) (c .before .idle-samples .result) (i .1) (e .1) (still c .1) idle (sym (i .2) ∙ still c .0) (length-table 16 _) (length-table 16 _), i .2, i .3, i .4, i .5, i .6, i .7)
 
-returns : tie.Need-returns Inv-loop μ-loop
-returns c =
-    let l = c .before .before .before .before .before .loop in
-    let a = c .before .before .before .before .before .before .before .before .before .before .before .before .before .args in
-    let i = l .inv in
-    let s = putIn (l .rest) (l .clock) (l .count) (l .lines) (l .bills) in
-    rw (c .ended .ensures) (sym (run-refused (a .config) (a .start) s (a .bits .now) (l .k) (i .1) 5 0 (c .before .before .before .before .loop-test .taken) (sample-end (a .config) (l .rest) (l .clock) (l .count) (l .lines) (l .bills) (getD (a .bits .now) (l .k) 0) (c .before .if2 .taken))))
-
-returns-2 : tie.Need-returns-2 Inv-loop μ-loop
-returns-2 c =
-    let l = c .before .before .before .before .before .before .before .loop in
-    let a = c .before .before .before .before .before .before .before .before .before .before .before .before .before .before .before .args in
-    let i = l .inv in
-    let s = putIn (l .rest) (l .clock) (l .count) (l .lines) (l .bills) in
-    let full = sample-full (a .config) (l .rest) (l .clock) (l .count) (l .lines) (l .bills) (getD (a .bits .now) (l .k) 0) _ _ (on (c .before .before .before .before .before)) (c .before .before .book .ensures) (c .before .before .before .if2 .left) (c .before .if3 .taken) in
-    rw (c .ended2 .ensures) (sym (run-refused (a .config) (a .start) s (a .bits .now) (l .k) (i .1) 6 0 (c .before .before .before .before .before .before .loop-test .taken) full))
+book-requires : tie.Need-book-requires Inv-loop μ-loop
+book-requires c κs = c .before .before .before .before .before .before .before .before .before .before .loop .inv .6
 
 loop-again-2 : tie.Need-loop-again-2 Inv-loop μ-loop
 loop-again-2 c =
-    let l = c .before .before .before .before .before .before .before .before .before .loop in
-    let a = c .before .before .before .before .before .before .before .before .before .before .before .before .before .before .before .before .before .args in
-    let i = l .inv in
-    let s = putIn (l .rest) (l .clock) (l .count) (l .lines) (l .bills) in
-    let e = c .before .before .before .before .book .ensures in
-    let o = on (c .before .before .before .before .before .before .before) in
-    let taken = sample-counted (a .config) (l .rest) (l .clock) (l .count) (l .lines) (l .bills) (getD (a .bits .now) (l .k) 0) _ _ o e (c .if4 .taken) (c .before .before .before .if3 .left) in
-    (omega arith, run-on (a .config) (a .start) s (a .bits .now) (l .k) (i .1) _ (c .before .before .before .before .before .before .before .before .loop-test .taken) taken, running-after (a .config) (l .rest) (l .clock) (l .count) (l .lines) (l .bills) (getD (a .bits .now) (l .k) 0) _ _ o e, lines-after (a .config) (l .rest) (l .clock) (l .count) (l .lines) (l .bills) (getD (a .bits .now) (l .k) 0) _ _ o e, bills-after (a .config) (l .rest) (l .clock) (l .count) (l .lines) (l .bills) (getD (a .bits .now) (l .k) 0) _ _ o e, i .5)
-
-tick-requires : tie.Need-tick-requires Inv-loop μ-loop
-tick-requires c κs =
     let l = c .before .before .before .before .before .before .before .before .before .before .loop in
-    let a = c .before .before .before .before .before .before .before .before .before .before .before .before .before .before .before .before .before .before .args in
-    let i = l .inv in
-    let s = putIn (l .rest) (l .clock) (l .count) (l .lines) (l .bills) in
-    rw (c .put-in .ensures) (not-at-end (l .clock) (l .count) (c .before .before .before .before .before .before .if2 .left) (c .before .if4 .left) (i .5))
-
-loop-again-3 : tie.Need-loop-again-3 Inv-loop μ-loop
-loop-again-3 c =
-    let l = c .before .before .before .before .before .before .before .before .before .before .before .before .loop in
     let a = c .before .before .before .before .before .before .before .before .before .before .before .before .before .before .before .before .before .before .before .before .args in
     let i = l .inv in
-    let s = putIn (l .rest) (l .clock) (l .count) (l .lines) (l .bills) in
-    let e = c .before .before .before .before .before .before .before .book .ensures in
-    let o = on (c .before .before .before .before .before .before .before .before .before .before) in
-    let booked = c .before .before .before .before .before .before .before .book .result in
-    let full = putIn (l .rest) (l .clock) (l .count) (booked .lines) (booked .bills) in
-    let t = c .before .tick .result in
-    let step : t ≡ tickOf (a .config) full = rw (← c .before .before .put-in .ensures) (c .before .tick .ensures) in
-    let before = not-at-end (l .clock) (l .count) (c .before .before .before .before .before .before .before .before .if2 .left) (c .before .before .before .if4 .left) (i .5) in
-    let taken = sample-ticked (a .config) (l .rest) (l .clock) (l .count) (l .lines) (l .bills) (getD (a .bits .now) (l .k) 0) _ _ o e (c .before .before .before .before .before .before .before .before .if2 .left) (c .before .before .before .if4 .left) (c .before .before .before .before .before .before .if3 .left) in
-    let next = run-on (a .config) (a .start) s (a .bits .now) (l .k) (i .1) _ (c .before .before .before .before .before .before .before .before .before .before .before .loop-test .taken) taken in (
-      omega arith,
-      rw (ticked-parts (a .config) full t step) next,
-      running-after (a .config) (l .rest) (l .clock) (l .count) (l .lines) (l .bills) (getD (a .bits .now) (l .k) 0) _ _ o e ∙ ticked-runs (a .config) full t step,
-      ticked-lines (a .config) full t step (lines-after (a .config) (l .rest) (l .clock) (l .count) (l .lines) (l .bills) (getD (a .bits .now) (l .k) 0) _ _ o e),
-      bills-after (a .config) (l .rest) (l .clock) (l .count) (l .lines) (l .bills) (getD (a .bits .now) (l .k) 0) _ _ o e,
-      omega (arith, ticked-clock (a .config) full t step),
-    )
+    let j = joined (c .before .before .before) in
+    let s = c .before .before .before .before in
+    let taken = sample-counted (a .config) (l .rest) (l .clock) (l .count) _ _ (getD (a .bits .now) (l .k) 0) _ (mask s) (on s) (j .books) (c .if5 .taken) refl in
+    let run = running-after (a .config) (l .rest) (l .clock) (l .count) _ _ (getD (a .bits .now) (l .k) 0) _ (mask s) (on s) (j .books) in
+    (omega arith, rw (c .before .step-runs .ensures) (run-on (a .config) (a .start) _ (a .bits .now) (l .k) (i .1) _ (c .before .before .before .before .before .before .before .before .before .loop-test .taken) taken), rw (c .before .step-runs .ensures) run, j .lines-sixteen, j .amounts-sixteen, i .5, j .in-force, i .7)
 
-returns-3 : tie.Need-returns-3 Inv-loop μ-loop
-returns-3 c =
-    let l = c .before .before .loop in
-    let a = c .before .before .before .before .before .before .before .before .before .before .args in
+add-clock : tie.Need-add-clock Inv-loop μ-loop
+add-clock c =
+    let l = c .before .before .before .before .before .before .before .before .before .before .loop in
+    let a = c .before .before .before .before .before .before .before .before .before .before .before .before .before .before .before .before .before .before .before .before .args in
     let i = l .inv in
-    let s = putIn (l .rest) (l .clock) (l .count) (l .lines) (l .bills) in
-    rw (c .ended3 .ensures) (sym (run-done (a .config) (a .start) s (a .bits .now) (l .k) (i .1) (i .0) (c .before .loop-test .left)))
+    let s = c .before .before .before .before in
+    record { fits = omega (arith, not-at-end (l .clock) (l .count) (s .before .if2 .left) (c .if5 .left) (i .5)) }
+
+loop-again-3 : tie.Need-loop-again-3 Inv-loop μ-loop
+unfolding clearedLines
+loop-again-3 c =
+    let l = c .before .before .before .before .before .before .before .before .before .before .before .before .before .before .before .loop in
+    let a = c .before .before .before .before .before .before .before .before .before .before .before .before .before .before .before .before .before .before .before .before .before .before .before .before .before .args in
+    let i = l .inv in
+    let j = joined (c .before .before .before .before .before .before .before .before) in
+    let s = c .before .before .before .before .before .before .before .before .before in
+    let before = not-at-end (l .clock) (l .count) (s .before .if2 .left) (c .before .before .before .before .before .if5 .left) (i .5) in
+    let taken = sample-ticked (a .config) (l .rest) (l .clock) (l .count) _ _ (getD (a .bits .now) (l .k) 0) _ (mask s) (on s) (j .books) (s .before .if2 .left) (c .before .before .before .before .before .if5 .left) refl in
+    let next = run-on (a .config) (a .start) _ (a .bits .now) (l .k) (i .1) _ (c .before .before .before .before .before .before .before .before .before .before .before .before .before .before .loop-test .taken) taken in
+    let run = running-after (a .config) (l .rest) (l .clock) (l .count) _ _ (getD (a .bits .now) (l .k) 0) _ (mask s) (on s) (j .books) in
+    let runs = steppedRuns (l .runs) (mask s) (bitOr (mask s) (l .running)) in
+    let step = step-closes (a .config) (l .rest) (l .clock) (l .count) (c .before .before .before .before .before .before .before .before .if3 .lines) runs (withAmounts (a .start .bills) (c .before .before .before .before .before .before .before .before .if3 .amounts)) (sym (c .before .before .before .is-multiple .ensures) ∙ c .before .before .if6 .taken) in
+    (omega arith, rw (c .before .before .before .before .before .before .step-runs .ensures, c .cleared .ensures, c .before .close-rest .ensures, ← step) next, rw (c .before .before .before .before .before .before .step-runs .ensures, c .cleared .ensures, runs-cleared (c .before .before .before .before .before .before .before .before .if3 .lines) runs) run, rw (c .cleared .ensures) (length-table 16 _), j .amounts-sixteen, omega arith, rw (c .before .before .before .before .aged .ensures) (aged-in-force (a .config .program) (l .clock) (c .before .before .before .before .before .before .before .before .if3 .tariffs) (j .in-force)), i .7)
+
+loop-again-4 : tie.Need-loop-again-4 Inv-loop μ-loop
+loop-again-4 c =
+    let l = c .before .before .before .before .before .before .before .before .before .before .before .before .before .loop in
+    let a = c .before .before .before .before .before .before .before .before .before .before .before .before .before .before .before .before .before .before .before .before .before .before .before .args in
+    let i = l .inv in
+    let j = joined (c .before .before .before .before .before .before) in
+    let s = c .before .before .before .before .before .before .before in
+    let before = not-at-end (l .clock) (l .count) (s .before .if2 .left) (c .before .before .before .if5 .left) (i .5) in
+    let taken = sample-ticked (a .config) (l .rest) (l .clock) (l .count) _ _ (getD (a .bits .now) (l .k) 0) _ (mask s) (on s) (j .books) (s .before .if2 .left) (c .before .before .before .if5 .left) refl in
+    let next = run-on (a .config) (a .start) _ (a .bits .now) (l .k) (i .1) _ (c .before .before .before .before .before .before .before .before .before .before .before .before .loop-test .taken) taken in
+    let run = running-after (a .config) (l .rest) (l .clock) (l .count) _ _ (getD (a .bits .now) (l .k) 0) _ (mask s) (on s) (j .books) in
+    let step = step-on (a .config) (l .rest) (l .clock) (l .count) (c .before .before .before .before .before .before .if3 .lines) (steppedRuns (l .runs) (mask s) (bitOr (mask s) (l .running))) (withAmounts (a .start .bills) (c .before .before .before .before .before .before .if3 .amounts)) (sym (c .before .is-multiple .ensures) ∙ c .if6 .left) in
+    (omega arith, rw (c .before .before .before .before .step-runs .ensures, ← step) next, rw (c .before .before .before .before .step-runs .ensures) run, j .lines-sixteen, j .amounts-sixteen, omega arith, rw (c .before .before .aged .ensures) (aged-in-force (a .config .program) (l .clock) (c .before .before .before .before .before .before .if3 .tariffs) (j .in-force)), i .7)
+
+-- the three ways out of the loop: the samples are used up, the clock is at its end, or a register would be full
+left : (c : tie.Left-loop Inv-loop μ-loop)
+    → record { taken = c .before .loop .k; number = numberOf (c .loop-test .answer); state = putIn (c .before .loop .rest) (c .before .loop .clock) (c .before .loop .count) (withRuns (c .before .loop .lines) (c .before .loop .runs)) (withAmounts (c .before .before .before .before .before .before .before .before .before .before .before .args .start .bills) (c .before .loop .amounts)) }
+    ≡ samplesOf (c .before .before .before .before .before .before .before .before .before .before .before .args .config) (c .before .before .before .before .before .before .before .before .before .before .before .args .start) (c .before .before .before .before .before .before .before .before .before .before .before .args .bits .now)
+left c =
+    let l = c .before .loop in
+    let a = c .before .before .before .before .before .before .before .before .before .before .before .args in
+    let i = l .inv in
+    ⊎-elim
+    (λ w. rw (w .1, i .7) (sym (run-done (a .config) (a .start) _ (a .bits .now) (l .k) (i .1) (i .0) (w .0 .left))))
+    (⊎-elim
+    (λ w. rw (w .5) (sym (run-refused (a .config) (a .start) _ (a .bits .now) (l .k) (i .1) 5 0 (w .0 .taken) (sample-end (a .config) (l .rest) (l .clock) (l .count) _ _ (getD (a .bits .now) (l .k) 0) (w .4 .taken)))))
+    (λ w.
+    let s : tie.After-shared-slice-known2 Inv-loop μ-loop = record { before = record { before = record { before = record { before = record { before = record { before = c .before; loop-test = w .0 }; room = w .1 }; idle-samples = w .2 }; if1 = w .3 }; if2 = w .4 }; shared-slice-known2 = w .5 } in
+    let parts = booked-parts (a .config) (l .clock) (l .lines) (l .runs) (a .start .bills) (l .amounts) (mask s) (l .running) (bitXor (l .running) (bitAnd (l .running) (mask s))) (bitOr (mask s) (l .running)) (i .2) refl refl (w .8 .result) (w .10 .result .booked) (w .8 .ensures) (w .10 .ensures .0) in
+    let full = sample-full (a .config) (l .rest) (l .clock) (l .count) _ _ (getD (a .bits .now) (l .k) 0) _ (mask s) (on s) parts (w .4 .left) (w .12 .taken) in
+    rw (w .13) (sym (run-refused (a .config) (a .start) _ (a .bits .now) (l .k) (i .1) 6 0 (w .0 .taken) full))))
+    (c .loop-test .came)
+
+returns : tie.Need-returns Inv-loop μ-loop
+returns c = rw (c .ended .ensures, c .before .put-amounts .ensures, c .before .before .put-runs .ensures) (left (c .before .before .before))
 
 pub take-spec : {M : Type 1} → statement M
 take-spec =
@@ -130,26 +183,35 @@ take-spec =
     (λ c κs. search needs)
     (λ c κs. search needs)
     (λ c κs. search needs)
+    (λ c κs. search needs)
+    (λ c κs. search needs)
     loop-holds
-    (λ c. search needs)
-    (λ c. search needs)
-    cast-active
+    (λ c κs. search needs)
+    (λ c κs. search needs)
+    cast-count
     add-count
-    (λ c. search needs)
-    (λ c. search needs)
+    add-k
+    loop-less
     loop-again
+    (λ c. search needs)
+    (λ c. search needs)
     (λ c κs. search needs)
-    returns
+    book-requires
     (λ c κs. search needs)
-    (λ c κs. search needs)
-    returns-2
     (λ c. search needs)
     (λ c. search needs)
     (λ c. search needs)
     loop-again-2
+    add-clock
     (λ c κs. search needs)
-    tick-requires
+    (λ c κs. search needs)
+    (λ c κs. search needs)
+    (λ c κs. search needs)
     (λ c. search needs)
     loop-again-3
+    (λ c. search needs)
+    loop-again-4
     (λ c κs. search needs)
-    returns-3)
+    (λ c κs. search needs)
+    (λ c κs. search needs)
+    returns)

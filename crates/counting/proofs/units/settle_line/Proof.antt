@@ -1,0 +1,26 @@
+-- `counting::units::settle_line` meets its contract: remainder, units and count are what the calls ensure.
+use borrow.Author.Needs.{needs}
+use Rattle.counting.specs.Units.{settled, credited}
+use Rattle.counting.proofs.units.settle_line.Statement.{statement}
+use Rattle.counting.proofs.units.settle_line.Tie as tie
+
+returns : tie.Need-returns
+unfolding settled credited
+returns c =
+    rw (← c .before .before .before .before .accepts .ensures, c .before .before .before .if1 .taken, c .before .before .remainder-of .ensures, c .held-sum .ensures, c .before .units-of .ensures)
+
+returns-2 : tie.Need-returns-2
+unfolding settled
+returns-2 c = rw (← c .before .before .accepts .ensures, c .before .if1 .left, c .one-more .ensures)
+
+pub settle-line-spec : {M : Type 1} → statement M
+settle-line-spec =
+    tie.close
+    (tie.spec
+    (λ c κs. search needs)
+    (λ c κs. search needs)
+    (λ c κs. search needs)
+    (λ c κs. search needs)
+    returns
+    (λ c κs. search needs)
+    returns-2)

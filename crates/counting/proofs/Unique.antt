@@ -4,14 +4,12 @@ use mathlib.Core.Path.{sym, ap, _∙_}
 use denote.Ref.{now}
 use Rattle.laws.specs.Unique.{OneResult, OneExit}
 use Rattle.counting.proofs.filter.advance.Reads as advance-reads
-use Rattle.counting.proofs.filter.step_runs.Reads as step-runs-reads
 use Rattle.counting.proofs.filter.kind_mask.Reads as kind-mask-reads
 use Rattle.counting.proofs.filter.running_lines.Reads as running-lines-reads
-use Rattle.counting.proofs.filter.runs_of.Reads as runs-of-reads
-use Rattle.counting.proofs.filter.put_runs.Reads as put-runs-reads
 use Rattle.counting.proofs.units.settle.Reads as settle-reads
 use Rattle.counting.proofs.units.some_units.Reads as some-units-reads
 use Rattle.counting.proofs.bills.sums_units.Reads as sums-units-reads
+use Rattle.counting.proofs.bills.fed_registers.Reads as fed-registers-reads
 use Rattle.counting.proofs.bills.book_amounts.Reads as book-amounts-reads
 use Rattle.counting.proofs.bills.amounts_of.Reads as amounts-of-reads
 use Rattle.counting.proofs.bills.put_amounts.Reads as put-amounts-reads
@@ -21,21 +19,11 @@ use Rattle.counting.proofs.levels.level9.Reads as level9-reads
 pub advance-exit : OneExit (λ κs e. now (e .0) ∷ []) advance-reads.Post
 advance-exit κs a x y e f p q = ap (λ n. n ∷ []) (p ∙ sym q)
 
--- the runs are the first parameter
-pub step-runs-exit : OneExit (λ κs e. now (e .0)) step-runs-reads.Post
-step-runs-exit κs a x y e f p q = p ∙ sym q
-
 pub kind-mask : OneResult kind-mask-reads.Post
 kind-mask κs a x y e f p q = p ∙ sym q
 
 pub running-lines : OneResult running-lines-reads.Post
 running-lines κs a x y e f p q = p ∙ sym q
-
-pub runs-of : OneResult runs-of-reads.Post
-runs-of κs a x y e f p q = p ∙ sym q
-
-pub put-runs : OneResult put-runs-reads.Post
-put-runs κs a x y e f p q = p ∙ sym q
 
 pub settle : OneResult settle-reads.Post
 settle κs a x y e f p q = p ∙ sym q
@@ -45,6 +33,9 @@ some-units κs a x y e f p q = p ∙ sym q
 
 pub sums-units : OneResult sums-units-reads.Post
 sums-units κs a x y e f p q = p ∙ sym q
+
+pub fed-registers : OneResult fed-registers-reads.Post
+fed-registers κs a x y e f p q = p ∙ sym q
 
 pub book-amounts : OneResult book-amounts-reads.Post
 book-amounts κs a x y e f p q = p ∙ sym q

@@ -8,7 +8,7 @@ use lib.ListN.{getD}
 use Rattle.laws.specs.If.{if_then_else_}
 use Rattle.laws.specs.Any.{any}
 use Rattle.laws.specs.Total.{total}
-use Rattle.laws.specs.Masks.{bitAt}
+use Rattle.laws.specs.Masks.{maskOf, bitAt}
 use Rattle.laws.specs.Tables.{table}
 use Rattle.settings.specs.declared.Register.{Register}
 use Rattle.counting.specs.declared.Bill.{Bill}
@@ -98,18 +98,30 @@ bookedOf registers bills map sums =
 unfoldable pub bookedAmount : ℕ → ℕ → ℕ
 bookedAmount amount due = if fillsUp amount due then amount else amount + due
 
+-- register j has no rule, or its rule is in force
+abbrev pub fedBy : List Register → ℕ → ℕ → Bool
+fedBy registers map j = feeds (registerAt registers j) map
+
+-- the mask of the registers that have no rule, or whose rule is in force
+unfoldable pub fedRegisters : List Register → ℕ → ℕ
+fedRegisters registers map = maskOf 16 (fedBy registers map)
+
+-- what a sample books to register j, given the mask of the registers that it feeds
+unfoldable pub fedAt : List Register → ℕ → List ℕ → ℕ → ℕ
+fedAt registers fed sums j = partOf (bitAt fed j) (registerUnits (registerAt registers j) sums)
+
 -- amount j would be too large
 unfoldable pub fullAt : List Register → List ℕ → ℕ → List ℕ → ℕ → Bool
-fullAt registers amounts map sums j = fillsUp (unitAt amounts j) (dueAt registers map sums j)
+fullAt registers amounts fed sums j = fillsUp (unitAt amounts j) (fedAt registers fed sums j)
 
 -- amount j with its units booked
 unfoldable pub bookedAmountAt : List Register → List ℕ → ℕ → List ℕ → ℕ → ℕ
-bookedAmountAt registers amounts map sums j = bookedAmount (unitAt amounts j) (dueAt registers map sums j)
+bookedAmountAt registers amounts fed sums j = bookedAmount (unitAt amounts j) (fedAt registers fed sums j)
 
 -- whether one amount would be too large, and all with their units booked
 unfoldable pub amountsBooked : List Register → List ℕ → ℕ → List ℕ → Amounts
-amountsBooked registers amounts map sums =
-    record { full = any 16 (fullAt registers amounts map sums); amounts = table 16 (bookedAmountAt registers amounts map sums) }
+amountsBooked registers amounts fed sums =
+    record { full = any 16 (fullAt registers amounts fed sums); amounts = table 16 (bookedAmountAt registers amounts fed sums) }
 
 -- the open amounts of the bills, as numbers
 unfoldable pub amountsOf : List Bill → List ℕ

@@ -1,6 +1,6 @@
 -- "S1a is active closed, S1r active open. Each line keeps its run of active samples from one sample to the next, counted to 256 and held there. The first inactive
 -- sample after a run of at least 1 ends it: shortest to longest inclusive is an accepted impulse, any other run a rejected one (count held at 65,535)."
-use mathlib.Core.Bool.{Bool, not, _&&_, _||_}
+use mathlib.Core.Bool.{Bool, true, not, _&&_, _||_}
 use mathlib.Core.List.{List}
 use Prim.Native.Nat.{ℕ, _+_}
 use lib.Dec.{ltb, leb, eqb}
@@ -91,26 +91,14 @@ runningAt lines i = ltb 0 (lineAt lines i .run)
 unfoldable pub runningLines : List Line → ℕ
 runningLines lines = maskOf 16 (runningAt lines)
 
--- the runs of the lines, as numbers
-unfoldable pub runsOf : List Line → List ℕ
-runsOf lines = table 16 (λ i. lineAt lines i .run)
-
 -- a line with another run
 abbrev pub withRun : Line → ℕ → Line
 withRun line run = record { run = run; rejected = line .rejected; remainder = line .remainder; units = line .units }
 
--- line i with its run out of a list of numbers
-unfoldable pub withRunAt : List Line → List ℕ → ℕ → Line
-withRunAt lines runs i = withRun (lineAt lines i) (getD runs i 0)
+-- line i after a sample in which it is active: its run goes on
+unfoldable pub advancedAt : List Line → ℕ → ℕ → Line
+advancedAt lines mask i = if bitAt mask i then withRun (lineAt lines i) (nextRun (lineAt lines i .run) true) else lineAt lines i
 
--- the lines with their runs out of a list of numbers
-unfoldable pub withRuns : List Line → List ℕ → List Line
-withRuns lines runs = table 16 (withRunAt lines runs)
-
--- the run at place i after a sample, given the masks of active lines and of those that are asked
-unfoldable pub steppedRunAt : List ℕ → ℕ → ℕ → ℕ → ℕ
-steppedRunAt runs mask busy i = if bitAt busy i then nextRun (getD runs i 0) (bitAt mask i) else getD runs i 0
-
--- all runs after a sample
-unfoldable pub steppedRuns : List ℕ → ℕ → ℕ → List ℕ
-steppedRuns runs mask busy = table 16 (steppedRunAt runs mask busy)
+-- all lines after a sample, given the mask of active ones
+unfoldable pub advancedLines : List Line → ℕ → List Line
+advancedLines lines mask = table 16 (advancedAt lines mask)

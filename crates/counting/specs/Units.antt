@@ -9,7 +9,7 @@ use Rattle.laws.specs.Masks.{bitAt}
 use Rattle.laws.specs.Tables.{table}
 use Rattle.settings.specs.declared.Input.{Input}
 use Rattle.laws.specs.Any.{any}
-use Rattle.counting.specs.Filter.{inputAt, lineAt, fits, oneMore}
+use Rattle.counting.specs.Filter.{inputAt, lineAt, withRun, fitting, oneMore}
 use Rattle.counting.specs.declared.Line.{Line}
 use Rattle.counting.specs.declared.units.Credits.{Credits}
 
@@ -57,27 +57,27 @@ creditsOf inputs lines impulses =
     record { lines = table 16 (creditedAt inputs lines impulses); units = table 16 (unitsAt inputs lines impulses) }
 
 -- a line on which a run ends: an accepted impulse is credited, any other run is counted as rejected
-unfoldable pub settled : Input → Line → ℕ → Line
-settled input line run =
-    if fits input run then credited input line
-    else record { run = line .run; rejected = oneMore (line .rejected) true; remainder = line .remainder; units = line .units }
+unfoldable pub settled : Input → Line → Line
+settled input line =
+    if fitting input line then withRun (credited input line) 0
+    else record { run = 0; rejected = oneMore (line .rejected) true; remainder = line .remainder; units = line .units }
 
 -- the units that it brings
-unfoldable pub settledUnits : Input → Line → ℕ → ℕ
-settledUnits input line run = if fits input run then unitsOf input (line .remainder) else 0
+unfoldable pub settledUnits : Input → Line → ℕ
+settledUnits input line = if fitting input line then unitsOf input (line .remainder) else 0
 
 -- line i, on which a run ends if the mask says so
-unfoldable pub settledAt : List Input → List Line → List ℕ → ℕ → ℕ → Line
-settledAt inputs lines runs ending i = if bitAt ending i then settled (inputAt inputs i) (lineAt lines i) (getD runs i 0) else lineAt lines i
+unfoldable pub settledAt : List Input → List Line → ℕ → ℕ → Line
+settledAt inputs lines ending i = if bitAt ending i then settled (inputAt inputs i) (lineAt lines i) else lineAt lines i
 
 -- the units that it brings
-unfoldable pub settledUnitsAt : List Input → List Line → List ℕ → ℕ → ℕ → ℕ
-settledUnitsAt inputs lines runs ending i = if bitAt ending i then settledUnits (inputAt inputs i) (lineAt lines i) (getD runs i 0) else 0
+unfoldable pub settledUnitsAt : List Input → List Line → ℕ → ℕ → ℕ
+settledUnitsAt inputs lines ending i = if bitAt ending i then settledUnits (inputAt inputs i) (lineAt lines i) else 0
 
 -- all lines with the runs of a mask ended, and the units that these bring
-unfoldable pub settledOf : List Input → List Line → List ℕ → ℕ → Credits
-settledOf inputs lines runs ending =
-    record { lines = table 16 (settledAt inputs lines runs ending); units = table 16 (settledUnitsAt inputs lines runs ending) }
+unfoldable pub settledOf : List Input → List Line → ℕ → Credits
+settledOf inputs lines ending =
+    record { lines = table 16 (settledAt inputs lines ending); units = table 16 (settledUnitsAt inputs lines ending) }
 
 -- line i brings units
 unfoldable pub someAt : List ℕ → ℕ → Bool

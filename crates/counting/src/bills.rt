@@ -1,11 +1,12 @@
 // Bills: what a sample books to the bill registers.
 use crate::Bill;
 use crate::filter::is_on;
+use crate::filter::with_bit;
 use settings::Register;
 ghost use mathlib.Core.Path.{_≡_};
 ghost use Prim.Native.Nat.{_≤_};
 ghost use lib.ListN.{length};
-ghost use Rattle.counting.specs.Bills.{partOf, sumOf, unitAt, Below, addedUnits, sumsOf, registerUnits, dueOf, fillsUp, bookedAmount, amountsBooked, amountsOf, withAmounts};
+ghost use Rattle.counting.specs.Bills.{partOf, sumOf, unitAt, Below, addedUnits, sumsOf, registerUnits, fedRegisters, fillsUp, bookedAmount, amountsBooked, amountsOf, withAmounts};
 
 // Whether a register would be full, and the open amounts.
 pub struct Amounts {
@@ -67,15 +68,27 @@ fn register_units(register: Register, sums: [u64; 8]) -> u64
     sums[sum]
 }
 
-// What a sample books to a register that has no rule or whose rule is in the map.
-fn due(register: Register, map: u16, sums: [u64; 8]) -> u64
-    ensures { λ r. ⌜ r ≡ dueOf register map sums ⌝ }
+// What a sample books to a register that it feeds.
+fn due(register: Register, fed: bool, sums: [u64; 8]) -> u64
+    ensures { λ r. ⌜ r ≡ partOf fed (registerUnits register sums) ⌝ }
 {
-    let on = (register.rule == 255) | tariff::bit_at(map as u32, register.rule);
-    if on {
+    if fed {
         return register_units(register, sums);
     }
     0
+}
+
+// The registers that units go to: they have no rule, or their rule is in the map.
+pub fn fed_registers(registers: [Register; 16], map: u16) -> u16
+    ensures { λ r. ⌜ r ≡ fedRegisters registers map ⌝ }
+{
+    let mut mask: u16 = 0;
+    for j in 0..16usize {
+        let register = registers[j];
+        let on = (register.rule == 255) | tariff::bit_at(map as u32, register.rule);
+        mask = with_bit(mask, j, on);
+    }
+    mask
 }
 
 // Whether the units would take a register past 999,999,999. A register that gets none is not asked.
@@ -101,15 +114,15 @@ fn book_amount(amount: u32, due: u64) -> u32
 pub fn book_amounts(
     registers: [Register; 16],
     amounts: [u32; 16],
-    map: u16,
+    fed: u16,
     sums: [u64; 8],
 ) -> Amounts
-    ensures { λ r. ⌜ r ≡ amountsBooked registers amounts map sums ⌝ }
+    ensures { λ r. ⌜ r ≡ amountsBooked registers amounts fed sums ⌝ }
 {
     let mut next = amounts;
     let mut full = false;
     for j in 0..16usize {
-        let units = due(registers[j], map, sums);
+        let units = due(registers[j], is_on(fed, j), sums);
         full = full | would_fill(amounts[j], units);
         next[j] = book_amount(amounts[j], units);
     }

@@ -5,7 +5,7 @@ ghost use mathlib.Core.Path.{_≡_};
 ghost use mathlib.Core.Bool.{true};
 ghost use Prim.Native.Nat.{_<_, _^_};
 ghost use Rattle.laws.specs.Masks.{withBit, bitAt};
-ghost use Rattle.counting.specs.Filter.{nextRun, oneMore, fits, kindMask, runningLines, runsOf, withRuns, steppedRuns};
+ghost use Rattle.counting.specs.Filter.{nextRun, oneMore, fits, kindMask, runningLines};
 
 // Whether a bit of a mask is on.
 pub(crate) fn is_on(mask: u16, place: usize) -> bool
@@ -17,7 +17,7 @@ pub(crate) fn is_on(mask: u16, place: usize) -> bool
     (mask >> place) % 2 == 1
 }
 
-fn with_bit(mask: u16, place: usize, on: bool) -> u16
+pub(crate) fn with_bit(mask: u16, place: usize, on: bool) -> u16
     requires { ⌜ (place < 16) × (mask < 2 ^ place) ⌝ }
     ensures { λ r. ⌜ r ≡ withBit mask place on ⌝ }
 {
@@ -46,20 +46,6 @@ pub fn advance(run: &mut u32, on: bool)
 {
     let before = *run;
     *run = next_run(before, on);
-}
-
-// The runs after a sample, each in place. Only the lines of `busy` are asked: those that are active or have a run.
-pub fn step_runs(runs: &mut [u32; 16], active: u16, busy: u16)
-    ensures { λ _. ⌜ now (runs .exit) ≡ steppedRuns (now (runs .entry)) active busy ⌝ }
-{
-    // The slice says that there are 16.
-    let whole = &runs[..];
-    let mut left = busy;
-    while left > 0 {
-        let i = u16::trailing_zeros(left) as usize;
-        advance(&mut runs[i], is_on(active, i));
-        left = left & (left - 1);
-    }
 }
 
 // One more impulse rejected, held at 65,535.
@@ -101,29 +87,4 @@ pub fn running_lines(lines: [Line; 16]) -> u16
         mask = with_bit(mask, i, 0 < line.run);
     }
     mask
-}
-
-// The runs of the lines, as numbers that can be lent.
-pub fn runs_of(lines: [Line; 16]) -> [u32; 16]
-    ensures { λ r. ⌜ r ≡ runsOf lines ⌝ }
-{
-    let mut runs = [0u32; 16];
-    for i in 0..16usize {
-        let line = lines[i];
-        runs[i] = line.run;
-    }
-    runs
-}
-
-// The lines with these runs.
-pub fn put_runs(lines: [Line; 16], runs: [u32; 16]) -> [Line; 16]
-    ensures { λ r. ⌜ r ≡ withRuns lines runs ⌝ }
-{
-    let mut next = lines;
-    for i in 0..16usize {
-        let mut line = lines[i];
-        line.run = runs[i];
-        next[i] = line;
-    }
-    next
 }

@@ -44,19 +44,19 @@ fn held_sum(units: u32, more: u32) -> u32
 }
 
 // A line on which a run ends: an accepted impulse brings units, any other run is counted as rejected.
-fn settle_line(input: Input, line: Line, run: u32) -> Line
-    ensures { λ r. ⌜ r ≡ settled input line run ⌝ }
+fn settle_line(input: Input, line: Line) -> Line
+    ensures { λ r. ⌜ r ≡ settled input line ⌝ }
 {
-    if accepts(input, run) {
+    if accepts(input, line.run) {
         return Line {
-            run: line.run,
+            run: 0,
             rejected: line.rejected,
             remainder: remainder_of(input, line.remainder),
             units: held_sum(line.units, units_of(input, line.remainder)),
         };
     }
     Line {
-        run: line.run,
+        run: 0,
         rejected: one_more(line.rejected),
         remainder: line.remainder,
         units: line.units,
@@ -64,26 +64,26 @@ fn settle_line(input: Input, line: Line, run: u32) -> Line
 }
 
 // The units that it brings.
-fn settle_units(input: Input, line: Line, run: u32) -> u32
-    ensures { λ r. ⌜ r ≡ settledUnits input line run ⌝ }
+fn settle_units(input: Input, line: Line) -> u32
+    ensures { λ r. ⌜ r ≡ settledUnits input line ⌝ }
 {
-    if accepts(input, run) {
+    if accepts(input, line.run) {
         return units_of(input, line.remainder);
     }
     0
 }
 
-// The lines with the runs of a mask ended, and the units that these brought.
-pub fn settle(inputs: [Input; 16], lines: [Line; 16], runs: &[u32; 16], ending: u16) -> Credits
-    ensures { λ r. ⌜ r ≡ settledOf inputs lines (now (runs .entry)) ending ⌝ }
+// The lines with the runs of a mask ended, and the units that these brought. Only the lines of the mask are gone through.
+pub fn settle(inputs: [Input; 16], lines: [Line; 16], ending: u16) -> Credits
+    ensures { λ r. ⌜ r ≡ settledOf inputs lines ending ⌝ }
 {
     let mut next = lines;
     let mut units = [0u32; 16];
     let mut left = ending;
     while left > 0 {
         let i = u16::trailing_zeros(left) as usize;
-        units[i] = settle_units(inputs[i], next[i], runs[i]);
-        next[i] = settle_line(inputs[i], next[i], runs[i]);
+        units[i] = settle_units(inputs[i], next[i]);
+        next[i] = settle_line(inputs[i], next[i]);
         left = left & (left - 1);
     }
     Credits { lines: next, units }

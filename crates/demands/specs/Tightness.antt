@@ -27,14 +27,12 @@ use Rattle.image.proofs.write_then_read.Reads as image-write-then-read
 use Rattle.image.proofs.read_then_write.Reads as image-read-then-write
 use Rattle.image.proofs.tester_line.Reads as image-tester-line
 use Rattle.counting.proofs.filter.advance.Reads as counting-advance
-use Rattle.counting.proofs.filter.step_runs.Reads as counting-step-runs
 use Rattle.counting.proofs.filter.kind_mask.Reads as counting-kind-mask
 use Rattle.counting.proofs.filter.running_lines.Reads as counting-running-lines
-use Rattle.counting.proofs.filter.runs_of.Reads as counting-runs-of
-use Rattle.counting.proofs.filter.put_runs.Reads as counting-put-runs
 use Rattle.counting.proofs.units.settle.Reads as counting-settle
 use Rattle.counting.proofs.units.some_units.Reads as counting-some-units
 use Rattle.counting.proofs.bills.sums_units.Reads as counting-sums-units
+use Rattle.counting.proofs.bills.fed_registers.Reads as counting-fed-registers
 use Rattle.counting.proofs.bills.book_amounts.Reads as counting-book-amounts
 use Rattle.counting.proofs.bills.amounts_of.Reads as counting-amounts-of
 use Rattle.counting.proofs.bills.put_amounts.Reads as counting-put-amounts
@@ -100,14 +98,12 @@ pub record OneImage : Type 1 where
 -- lines, units, bills and levels: no second result fits, and for a lent buffer no second state of it
 pub record OneCounting : Type 1 where
   pub advance-exit : OneExit (λ κs e. now (e .0) ∷ []) counting-advance.Post
-  pub step-runs-exit : OneExit (λ κs e. now (e .0)) counting-step-runs.Post
   pub kind-mask : OneResult counting-kind-mask.Post
   pub running-lines : OneResult counting-running-lines.Post
-  pub runs-of : OneResult counting-runs-of.Post
-  pub put-runs : OneResult counting-put-runs.Post
   pub settle : OneResult counting-settle.Post
   pub some-units : OneResult counting-some-units.Post
   pub sums-units : OneResult counting-sums-units.Post
+  pub fed-registers : OneResult counting-fed-registers.Post
   pub book-amounts : OneResult counting-book-amounts.Post
   pub amounts-of : OneResult counting-amounts-of.Post
   pub put-amounts : OneResult counting-put-amounts.Post
@@ -172,14 +168,12 @@ pub record NoPrecondition : Type 1 where
   pub image-read-then-write : AsksNothing image-read-then-write.Asked
   pub image-tester-line : AsksNothing image-tester-line.Asked
   pub counting-advance : AsksNothing counting-advance.Asked
-  pub counting-step-runs : AsksNothing counting-step-runs.Asked
   pub counting-kind-mask : AsksNothing counting-kind-mask.Asked
   pub counting-running-lines : AsksNothing counting-running-lines.Asked
-  pub counting-runs-of : AsksNothing counting-runs-of.Asked
-  pub counting-put-runs : AsksNothing counting-put-runs.Asked
   pub counting-settle : AsksNothing counting-settle.Asked
   pub counting-some-units : AsksNothing counting-some-units.Asked
   pub counting-sums-units : AsksNothing counting-sums-units.Asked
+  pub counting-fed-registers : AsksNothing counting-fed-registers.Asked
   pub counting-book-amounts : AsksNothing counting-book-amounts.Asked
   pub counting-amounts-of : AsksNothing counting-amounts-of.Asked
   pub counting-put-amounts : AsksNothing counting-put-amounts.Asked

@@ -1,11 +1,11 @@
 -- Laws of what a sample books.
 use mathlib.Core.Path.{_≡_, refl, sym, ap, _∙_}
-use mathlib.Core.Bool.{Bool, true, false, not, _&&_, _||_}
+use mathlib.Core.Bool.{Bool, true, false, not, _&&_}
 use mathlib.Core.List.{List}
 use Prim.Native.Nat.{ℕ, _<_}
 use native.Mathlib.Nat.{add-zero}
 use native.Mathlib.Omega.{arith}
-use lib.Bits.{bitAnd, bitOr, bitXor}
+use lib.Bits.{bitAnd, bitXor}
 use lib.Dec.{ltb}
 use lib.ListN.{length, getD}
 use borrow.Author.Tests.{ltb-true, ltb-false, lt-ltb}
@@ -14,22 +14,22 @@ use Rattle.laws.specs.Tests.{by-test}
 use Rattle.laws.specs.Any.{any-none, any-not}
 use Rattle.laws.specs.Total.{total-zero}
 use Rattle.laws.specs.Masks.{bitAt, bit-at, bit-zero}
-use Rattle.laws.specs.BitTests.{either, bit-and, bit-or, bit-xor}
+use Rattle.laws.specs.BitTests.{either, bit-and, bit-xor}
 use Rattle.laws.specs.Tables.{table, table-at, table-cong, table-self, length-table}
 use Rattle.tariff.specs.Rules.{forceMapAt}
 use Rattle.settings.specs.declared.Config.{Config}
 use Rattle.settings.specs.declared.Input.{Input}
 use Rattle.settings.specs.declared.Register.{Register}
-use Rattle.counting.specs.Filter.{lineAt, ends, steppedOf, filteredAt, runningAt, runningLines, withRunAt, withRuns, steppedRuns}
+use Rattle.counting.specs.Filter.{lineAt, ends, steppedOf, filteredAt, runningAt, runningLines, advancedLines}
 use Rattle.counting.specs.Units.{creditIf, unitsIf, creditedAt, unitsAt, creditsOf, settledOf, someAt, someUnits}
-use Rattle.counting.specs.Bills.{registerAt, billAt, unitAt, namedPart, sumOf, sumAt, sumsOf, registerUnits, feeds, dueOf, fills, billed, dueAt, fillsAt, billedAt, bookedOf, bookedAmount, fullAt, bookedAmountAt, amountsBooked, withAmounts}
+use Rattle.counting.specs.Bills.{registerAt, billAt, unitAt, namedPart, sumOf, sumAt, sumsOf, registerUnits, feeds, dueOf, fills, billed, dueAt, fillsAt, billedAt, bookedOf, bookedAmount, fedAt, fullAt, bookedAmountAt, amountsBooked, withAmounts}
 use Rattle.counting.specs.declared.Line.{Line}
 use Rattle.counting.specs.declared.units.Credits.{Credits}
 use Rattle.counting.specs.declared.bills.Amounts.{Amounts}
 use Rattle.counting.specs.declared.Bill.{Bill}
 use Rattle.counting.proofs.Parts.{settled-lines, brought, none-settled, none-brought, full-parts, bills-parts}
 use Rattle.sampling.specs.Samples.{bookingOf}
-use Rattle.sampling.specs.Kept.{InForce, amountsAt}
+use Rattle.sampling.specs.Kept.{InForce, fedAtClock, amountsAt}
 use Rattle.sampling.specs.declared.booking.Tariffs.{Tariffs}
 
 -- a register that gets nothing is not filled
@@ -93,15 +93,20 @@ pub none-some : (units : List ℕ) → someUnits units ≡ false → (i : ℕ) �
 unfolding someUnits someAt
 none-some units e i l = let none = ltb-false 0 (unitAt units i) (any-not 16 (someAt units) e i l) in omega arith
 
+-- no register gets any
+no-fed : (registers : List Register) (fed : ℕ) (sums units : List ℕ) → ((i : ℕ) → i < 16 → unitAt units i ≡ 0) → (j : ℕ) → fedAt registers fed (sumsOf sums units) j ≡ 0
+unfolding fedAt
+no-fed registers fed sums units none j = rw (no-units (registerAt registers j) sums units none) (if-same (bitAt fed j) 0)
+
 -- without units the amounts stay as they are
 pub same-amounts : (c : Config) (clock : ℕ) (units amounts : List ℕ) → length amounts ≡ 16 → ((i : ℕ) → i < 16 → unitAt units i ≡ 0)
     → record { full = false; amounts = amounts } ≡ amountsAt c clock units amounts
 unfolding amountsAt amountsBooked fullAt bookedAmountAt bookedAmount
 same-amounts c clock units amounts size none =
-    let map = forceMapAt (c .program) clock in
+    let fed = fedAtClock c clock in
     let sums = sumsOf (c .sums) units in
-    let full = any-none 16 (fullAt (c .registers) amounts map sums) (λ j l. rw (no-due (c .registers) map (c .sums) units none j)) in
-    let same = table-cong 16 (bookedAmountAt (c .registers) amounts map sums) (unitAt amounts) (λ j l. rw (no-due (c .registers) map (c .sums) units none j) (add-zero (unitAt amounts j))) ∙ table-self 16 amounts 0 size in
+    let full = any-none 16 (fullAt (c .registers) amounts fed sums) (λ j l. rw (no-fed (c .registers) fed (c .sums) units none j)) in
+    let same = table-cong 16 (bookedAmountAt (c .registers) amounts fed sums) (unitAt amounts) (λ j l. rw (no-fed (c .registers) fed (c .sums) units none j) (add-zero (unitAt amounts j))) ∙ table-self 16 amounts 0 size in
     (λ i. record { full = sym full i; amounts = sym same i })
 
 -- a run that is there and a line that is not active
@@ -111,61 +116,55 @@ not-both true false = refl
 not-both false true = refl
 not-both false false = refl
 
-module _ (c : Config) (clock : ℕ) (lines : List Line) (runs : List ℕ) (bills : List Bill) (amounts : List ℕ) (mask running ending busy : ℕ)
-    (runs-are : running ≡ runningLines (withRuns lines runs)) (end-are : ending ≡ bitXor running (bitAnd running mask)) (busy-are : busy ≡ bitOr mask running) where
+module _ (c : Config) (clock : ℕ) (lines : List Line) (bills : List Bill) (amounts : List ℕ) (mask running ending : ℕ)
+    (runs-are : running ≡ runningLines lines) (end-are : ending ≡ bitXor running (bitAnd running mask)) where
   -- a line with a run
-  running-bit : (i : ℕ) → i < 16 → bitAt running i ≡ ltb 0 (getD runs i 0)
-  unfolding runningLines withRuns withRunAt
-  running-bit i l =
-      ap (λ m. bitAt m i) runs-are ∙ (bit-at 16 (runningAt (withRuns lines runs)) i ∙ rw (lt-ltb i 16 l) (ap (λ (x : Line). ltb 0 (x .run)) (table-at 16 (withRunAt lines runs) i _ l)))
+  running-bit : (i : ℕ) → i < 16 → bitAt running i ≡ ltb 0 (lineAt lines i .run)
+  unfolding runningLines
+  running-bit i l = ap (λ m. bitAt m i) runs-are ∙ (bit-at 16 (runningAt lines) i ∙ rw (lt-ltb i 16 l))
 
   -- a line whose run ends
-  ending-bit : (i : ℕ) → i < 16 → bitAt ending i ≡ ends (withRunAt lines runs i) (bitAt mask i)
-  unfolding withRunAt
-  ending-bit i l = rw (end-are, bit-xor running (bitAnd running mask) i, bit-and running mask i, running-bit i l) (not-both (ltb 0 (getD runs i 0)) (bitAt mask i))
-
-  -- a line that is asked
-  busy-bit : (i : ℕ) → i < 16 → bitAt busy i ≡ (bitAt mask i || ltb 0 (getD runs i 0))
-  busy-bit i l = rw (busy-are, bit-or mask running i, running-bit i l)
+  ending-bit : (i : ℕ) → i < 16 → bitAt ending i ≡ ends (lineAt lines i) (bitAt mask i)
+  ending-bit i l = rw (end-are, bit-xor running (bitAnd running mask) i, bit-and running mask i, running-bit i l) (not-both (ltb 0 (lineAt lines i .run)) (bitAt mask i))
 
   -- what a sample books, by its parts
-  pub booked-parts : (cr : Credits) (bk : Amounts) → cr ≡ settledOf (c .inputs) lines runs ending → bk ≡ amountsAt c clock (cr .units) amounts
-      → record { full = bk .full; lines = withRuns (cr .lines) (steppedRuns runs mask busy); bills = withAmounts bills (bk .amounts) }
-      ≡ bookingOf c clock (withRuns lines runs) (withAmounts bills amounts) mask
+  pub booked-parts : (cr : Credits) (bk : Amounts) → cr ≡ settledOf (c .inputs) lines ending → bk ≡ amountsAt c clock (cr .units) amounts
+      → record { full = bk .full; lines = advancedLines (cr .lines) mask; bills = withAmounts bills (bk .amounts) }
+      ≡ bookingOf c clock lines (withAmounts bills amounts) mask
   unfolding bookingOf amountsAt
   booked-parts cr bk settles books =
-      let units = brought (c .inputs) lines runs mask ending busy ending-bit busy-bit in
+      let units = brought (c .inputs) lines mask ending ending-bit in
       let map = forceMapAt (c .program) clock in
-      let sums = sumsOf (c .sums) (settledOf (c .inputs) lines runs ending .units) in
+      let sums = sumsOf (c .sums) (settledOf (c .inputs) lines ending .units) in
       let full = full-parts (c .registers) bills amounts map sums in
       let same = bills-parts (c .registers) bills amounts map sums in
-      rw (books, settles, units, settled-lines (c .inputs) lines runs mask ending busy ending-bit busy-bit) (λ i. record { full = sym full i; lines = withRuns (settledOf (c .inputs) lines runs ending .lines) (steppedRuns runs mask busy); bills = sym same i })
+      rw (books, settles, units, settled-lines (c .inputs) lines mask ending ending-bit) (λ i. record { full = sym full i; lines = advancedLines (settledOf (c .inputs) lines ending .lines) mask; bills = sym same i })
 
-  -- where no run ends, only the runs go on
+  -- where no run ends, the runs of the active lines go on
   pub unended-parts : ending ≡ 0 → length lines ≡ 16 → length amounts ≡ 16
-      → record { full = false; lines = withRuns lines (steppedRuns runs mask busy); bills = withAmounts bills amounts }
-      ≡ bookingOf c clock (withRuns lines runs) (withAmounts bills amounts) mask
+      → record { full = false; lines = advancedLines lines mask; bills = withAmounts bills amounts }
+      ≡ bookingOf c clock lines (withAmounts bills amounts) mask
   unended-parts none size sizes =
-      let cr = settledOf (c .inputs) lines runs 0 in
-      let bk : record { full = false; amounts = amounts } ≡ amountsAt c clock (cr .units) amounts = same-amounts c clock (cr .units) amounts sizes (none-brought (c .inputs) lines runs) in
-      rw (none-settled (c .inputs) lines runs size) at (booked-parts cr (record { full = false; amounts = amounts }) (rw none) bk)
+      let cr = settledOf (c .inputs) lines 0 in
+      let bk : record { full = false; amounts = amounts } ≡ amountsAt c clock (cr .units) amounts = same-amounts c clock (cr .units) amounts sizes (none-brought (c .inputs) lines) in
+      rw (none-settled (c .inputs) lines size) at (booked-parts cr (record { full = false; amounts = amounts }) (rw none) bk)
 
-  -- what a sample that fills no register leaves: the lines apart from their runs, the amounts and the tariffs
+  -- what a sample that fills no register leaves before the runs go on: the lines, the amounts and the tariffs
   pub record Left (left : List Line) (open-amounts : List ℕ) (tariffs : Tariffs) : Type 0 where
-    pub books : record { full = false; lines = withRuns left (steppedRuns runs mask busy); bills = withAmounts bills open-amounts } ≡ bookingOf c clock (withRuns lines runs) (withAmounts bills amounts) mask
+    pub books : record { full = false; lines = advancedLines left mask; bills = withAmounts bills open-amounts } ≡ bookingOf c clock lines (withAmounts bills amounts) mask
     pub lines-sixteen : length left ≡ 16
     pub amounts-sixteen : length open-amounts ≡ 16
-    pub in-force : InForce (c .program) clock tariffs
+    pub in-force : InForce c clock tariffs
 
   -- where no run ends
-  pub unended : (left : List Line) (open-amounts : List ℕ) (tariffs known : Tariffs) → ending ≡ 0 → length lines ≡ 16 → length amounts ≡ 16 → InForce (c .program) clock known
+  pub unended : (left : List Line) (open-amounts : List ℕ) (tariffs known : Tariffs) → ending ≡ 0 → length lines ≡ 16 → length amounts ≡ 16 → InForce c clock known
       → left ≡ lines → open-amounts ≡ amounts → tariffs ≡ known → Left left open-amounts tariffs
   unended left open-amounts tariffs known none size sizes force l a t =
       rw (l, a, t) (record { books = unended-parts none size sizes; lines-sixteen = size; amounts-sixteen = sizes; in-force = force })
 
   -- where some end, and no register is full
-  pub ended : (left : List Line) (open-amounts : List ℕ) (tariffs known : Tariffs) (cr : Credits) (bk : Amounts) → cr ≡ settledOf (c .inputs) lines runs ending → bk ≡ amountsAt c clock (cr .units) amounts
-      → bk .full ≡ false → InForce (c .program) clock known → left ≡ cr .lines → open-amounts ≡ bk .amounts → tariffs ≡ known → Left left open-amounts tariffs
+  pub ended : (left : List Line) (open-amounts : List ℕ) (tariffs known : Tariffs) (cr : Credits) (bk : Amounts) → cr ≡ settledOf (c .inputs) lines ending → bk ≡ amountsAt c clock (cr .units) amounts
+      → bk .full ≡ false → InForce c clock known → left ≡ cr .lines → open-amounts ≡ bk .amounts → tariffs ≡ known → Left left open-amounts tariffs
   unfolding settledOf amountsAt amountsBooked
   ended left open-amounts tariffs known cr bk settles books full force l a t =
       rw (l, a, t)

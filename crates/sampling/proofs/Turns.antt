@@ -18,13 +18,11 @@ use Rattle.laws.specs.BitTests.{either, bit-and, bit-or, bit-xor}
 use Rattle.laws.specs.Tables.{table, table-at, table-cong, table-self, length-table}
 use Rattle.settings.specs.declared.Config.{Config}
 use Rattle.settings.specs.declared.Input.{Input}
-use Rattle.counting.specs.Filter.{inputAt, lineAt, active, nextRun, ends, fitting, oneMore, accepted, filtered, filteredAt, acceptedAt, steppedOf, kindAt, kindMask, runningAt, runningLines, withRunAt, withRuns}
+use Rattle.counting.specs.Filter.{inputAt, lineAt, active, nextRun, ends, fitting, oneMore, accepted, filtered, filteredAt, acceptedAt, steppedOf, kindAt, kindMask, runningAt, runningLines}
 use Rattle.counting.specs.Units.{credited, creditIf, creditedAt, creditsOf}
-use Rattle.counting.specs.Bills.{bookedOf}
-use Rattle.counting.proofs.Parts.{level0-parts}
-use Rattle.tariff.specs.declared.Program.{Program}
-use Rattle.tariff.proofs.Minutes.{next-same}
-use Rattle.sampling.specs.Periods.{multiple, cleared, clearedAt, clearedLines, closedAs, closedRest, tickOf}
+use Rattle.counting.specs.Bills.{bookedOf, fedRegisters}
+use Rattle.tariff.proofs.Laws.{next-same}
+use Rattle.sampling.specs.Periods.{multiple, cleared, clearedAt, clearedLines, closedRest, tickOf}
 use Rattle.sampling.specs.Kept.{InForce, agedTo, roomOf}
 use Rattle.sampling.specs.declared.booking.Tariffs.{Tariffs}
 use Rattle.sampling.specs.Samples.{Booking, bookingOf, activeAt, activeLines, putIn, countedOf, sampleOf, Run, samplesOf}
@@ -218,43 +216,29 @@ module _ (c : Config) (rest : State) (clock count : ℕ) (lines : List Line) (bi
     unfolding bookingOf bookedOf
     bills-after = rw booked (length-table 16 _)
 
--- a new period begins with the runs that there are
-cleared-parts : (lines : List Line) (runs : List ℕ) → clearedLines (withRuns lines runs) ≡ withRuns (clearedLines lines) runs
-unfolding clearedLines clearedAt cleared withRuns withRunAt
-cleared-parts lines runs =
-    table-cong 16 _ _
-    (λ i l. rw (whole i l, alone i l))
-  where
-    whole : (i : ℕ) → i < 16 → lineAt (table 16 (withRunAt lines runs)) i ≡ withRunAt lines runs i
-    whole i l = table-at 16 (withRunAt lines runs) i _ l
-
-    alone : (i : ℕ) → i < 16 → lineAt (table 16 (clearedAt lines)) i ≡ clearedAt lines i
-    alone i l = table-at 16 (clearedAt lines) i _ l
-
-module _ (c : Config) (rest : State) (clock count : ℕ) (lines : List Line) (runs : List ℕ) (bills : List Bill) where
+module _ (c : Config) (rest : State) (clock count : ℕ) (lines : List Line) (bills : List Bill) where
   -- the step inside a period
-  pub step-on : multiple (c .period) (clock + 1) ≡ false
-      → tickOf c (putIn rest clock count (withRuns lines runs) bills) ≡ putIn rest (clock + 1) 0 (withRuns lines runs) bills
+  pub step-on : multiple (c .period) (clock + 1) ≡ false → tickOf c (putIn rest clock count lines bills) ≡ putIn rest (clock + 1) 0 lines bills
   unfolding tickOf
   step-on e = rw e
 
   -- the step that closes a period
   pub step-closes : multiple (c .period) (clock + 1) ≡ true
-      → tickOf c (putIn rest clock count (withRuns lines runs) bills) ≡ putIn (closedRest c rest (clock + 1) lines) (clock + 1) 0 (withRuns (clearedLines lines) runs) bills
-  unfolding tickOf closedRest closedAs
-  step-closes e = rw (e, cleared-parts lines runs, level0-parts lines runs)
+      → tickOf c (putIn rest clock count lines bills) ≡ putIn (closedRest c rest (clock + 1) lines) (clock + 1) 0 (clearedLines lines) bills
+  unfolding tickOf closedRest
+  step-closes e = rw e
 
--- the runs are those of before a new period
-pub runs-cleared : (lines : List Line) (runs : List ℕ) → runningLines (withRuns (clearedLines lines) runs) ≡ runningLines (withRuns lines runs)
-unfolding runningLines withRuns withRunAt
-runs-cleared lines runs = mask-cong 16 _ _ (λ i l. ap (λ (x : Line). ltb 0 (x .run)) (table-at 16 (withRunAt (clearedLines lines) runs) i _ l) ∙ sym (ap (λ (x : Line). ltb 0 (x .run)) (table-at 16 (withRunAt lines runs) i _ l)))
+-- a new period begins with the runs that there are
+pub runs-cleared : (lines : List Line) → runningLines (clearedLines lines) ≡ runningLines lines
+unfolding runningLines clearedLines clearedAt cleared
+runs-cleared lines = mask-cong 16 (runningAt (table 16 (clearedAt lines))) (runningAt lines) (λ i l. rw (table-at 16 (clearedAt lines) i _ l))
 
 -- tariffs that are known at a second are those of the next one, but for a new minute
-pub aged-in-force : (p : Program) (clock : ℕ) (tariffs : Tariffs) → InForce p clock tariffs → InForce p (clock + 1) (agedTo (clock + 1) tariffs)
-aged-in-force p clock tariffs known e =
+pub aged-in-force : (c : Config) (clock : ℕ) (tariffs : Tariffs) → InForce c clock tariffs → InForce c (clock + 1) (agedTo (clock + 1) tariffs)
+aged-in-force c clock tariffs known e =
     let now = known (and-left (tariffs .known) _ e) in
     let later = ltb-true 0 ((clock + 1) % 60) (and-right (tariffs .known) _ e) in
-    now ∙ sym (next-same p clock (ne-eqb ((clock + 1) % 60) 0 (λ z. omega arith)))
+    now ∙ ap (fedRegisters (c .registers)) (sym (next-same (c .program) clock (ne-eqb ((clock + 1) % 60) 0 (λ z. omega arith))))
 
 -- where the second is full and the clock not at its end, it can step
 pub not-at-end : (clock count : ℕ) → (eqb clock 4_294_967_295 && leb 99 count) ≡ false → 99 ≤ count → clock ≤ 4_294_967_295 → clock < 4_294_967_295

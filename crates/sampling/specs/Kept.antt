@@ -7,24 +7,27 @@ use lib.Bits.{bitAnd, bitXor}
 use lib.Dec.{ltb, eqb}
 use lib.ListN.{getD}
 use Rattle.laws.specs.If.{if_then_else_}
-use Rattle.tariff.specs.declared.Program.{Program}
 use Rattle.tariff.specs.Rules.{forceMapAt}
 use Rattle.settings.specs.declared.Config.{Config}
-use Rattle.counting.specs.Bills.{sumsOf, amountsBooked}
+use Rattle.counting.specs.Bills.{sumsOf, fedRegisters, amountsBooked}
 use Rattle.counting.specs.declared.bills.Amounts.{Amounts}
 use Rattle.sampling.specs.declared.booking.Tariffs.{Tariffs}
 
+-- the registers that units go to at a second
+abbrev pub fedAtClock : Config → ℕ → ℕ
+fedAtClock c clock = fedRegisters (c .registers) (forceMapAt (c .program) clock)
+
 -- tariffs that are known are those in force
-abbrev pub InForce : Program → ℕ → Tariffs → Type 0
-InForce program clock tariffs = tariffs .known ≡ true → tariffs .map ≡ forceMapAt program clock
+abbrev pub InForce : Config → ℕ → Tariffs → Type 0
+InForce c clock tariffs = tariffs .known ≡ true → tariffs .fed ≡ fedAtClock c clock
 
 -- the tariffs at the next second; a new minute has others
 abbrev pub agedTo : ℕ → Tariffs → Tariffs
-agedTo clock tariffs = record { known = tariffs .known && ltb 0 (clock % 60); map = tariffs .map }
+agedTo clock tariffs = record { known = tariffs .known && ltb 0 (clock % 60); fed = tariffs .fed }
 
 -- the amounts with the units of a sample, at the tariffs in force
 unfoldable pub amountsAt : Config → ℕ → List ℕ → List ℕ → Amounts
-amountsAt c clock units amounts = amountsBooked (c .registers) amounts (forceMapAt (c .program) clock) (sumsOf (c .sums) units)
+amountsAt c clock units amounts = amountsBooked (c .registers) amounts (fedAtClock c clock) (sumsOf (c .sums) units)
 
 -- how many samples may only count: none where a line has a run, else up to the hundredth
 abbrev pub roomOf : ℕ → ℕ → ℕ

@@ -1,19 +1,17 @@
 // One sample's booking: the units that its impulses bring, the sums, the tariffs and the bills, in this order.
 use counting::bills::Amounts;
 use counting::bills::book_amounts;
+use counting::bills::fed_registers;
 use counting::bills::sums_units;
 use counting::units::some_units;
 use settings::Config;
-use tariff::Program;
 ghost use mathlib.Core.Path.{_≡_};
-ghost use mathlib.Core.Bool.{true};
-ghost use Rattle.tariff.specs.Rules.{forceMapAt};
-ghost use Rattle.sampling.specs.Kept.{InForce, agedTo, amountsAt};
+ghost use Rattle.sampling.specs.Kept.{InForce, fedAtClock, agedTo, amountsAt};
 
-// The tariff rules in force, once they are worked out: they stay the same to the end of the minute.
+// The registers that units go to by the tariffs in force, once they are worked out: they stay the same to the end of the minute.
 pub struct Tariffs {
     pub known: bool,
-    pub map: u16,
+    pub fed: u16,
 }
 
 // Whether a register would be full, and the open amounts; and the tariffs, which may have been worked out.
@@ -22,16 +20,18 @@ pub struct Booking {
     pub tariffs: Tariffs,
 }
 
-fn tariffs_at(program: Program, clock: u32, tariffs: Tariffs) -> Tariffs
-    requires { ⌜ InForce program clock tariffs ⌝ }
-    ensures { λ r. ⌜ r .map ≡ forceMapAt program clock ⌝ }
+fn tariffs_at(config: Config, clock: u32, tariffs: Tariffs) -> Tariffs
+    requires { ⌜ InForce config clock tariffs ⌝ }
+    ensures { λ r. ⌜ r .fed ≡ fedAtClock config clock ⌝ }
 {
     if tariffs.known {
         return tariffs;
     }
+    let registers = config.registers;
+    let program = config.program;
     Tariffs {
         known: true,
-        map: tariff::force_map_at(program, clock),
+        fed: fed_registers(registers, tariff::force_map_at(program, clock)),
     }
 }
 
@@ -41,7 +41,7 @@ pub(crate) fn aged(tariffs: Tariffs, clock: u32) -> Tariffs
 {
     Tariffs {
         known: tariffs.known & (0 < clock % 60),
-        map: tariffs.map,
+        fed: tariffs.fed,
     }
 }
 
@@ -53,8 +53,8 @@ pub(crate) fn book(
     amounts: [u32; 16],
     tariffs: Tariffs,
 ) -> Booking
-    requires { ⌜ InForce (config .program) clock tariffs ⌝ }
-    ensures { λ r. ⌜ (r .booked ≡ amountsAt config clock units amounts) × InForce (config .program) clock (r .tariffs) ⌝ }
+    requires { ⌜ InForce config clock tariffs ⌝ }
+    ensures { λ r. ⌜ (r .booked ≡ amountsAt config clock units amounts) × InForce config clock (r .tariffs) ⌝ }
 {
     if !some_units(units) {
         return Booking {
@@ -67,10 +67,9 @@ pub(crate) fn book(
     }
     let named = config.sums;
     let registers = config.registers;
-    let program = config.program;
-    let known = tariffs_at(program, clock, tariffs);
+    let known = tariffs_at(config, clock, tariffs);
     let sums = sums_units(named, units);
-    let booked = book_amounts(registers, amounts, known.map, sums);
+    let booked = book_amounts(registers, amounts, known.fed, sums);
     Booking {
         booked,
         tariffs: known,

@@ -11,11 +11,9 @@ use crate::clock::close_rest;
 use crate::clock::is_multiple;
 use counting::bills::amounts_of;
 use counting::bills::put_amounts;
+use counting::filter::advance;
 use counting::filter::kind_mask;
-use counting::filter::put_runs;
 use counting::filter::running_lines;
-use counting::filter::runs_of;
-use counting::filter::step_runs;
 use counting::units::settle;
 use settings::Config;
 ghost use mathlib.Core.Path.{_≡_};
@@ -101,7 +99,7 @@ fn idle_samples(bits: &[u16], k: usize, room: usize, fitted: u16, s1r: u16) -> u
     at - k
 }
 
-// The samples one after another, up to the first refusal. Runs and open amounts are kept as numbers, and the runs are advanced in place.
+// The samples one after another, up to the first refusal. Only lines whose runs end are judged, and only those that are active have their runs advanced, in place.
 pub fn take(config: Config, start: State, bits: &[u16]) -> Taking
     ensures { λ r. ⌜ said r ≡ samplesOf config start (now (bits .entry)) ⌝ }
 {
@@ -113,12 +111,11 @@ pub fn take(config: Config, start: State, bits: &[u16]) -> Taking
     let mut clock = start.clock;
     let mut count = start.samples;
     let mut lines = start.lines;
-    let mut runs = runs_of(lines);
     let mut amounts = amounts_of(bills);
     let mut running = running_lines(lines);
     let mut tariffs = Tariffs {
         known: false,
-        map: 0,
+        fed: 0,
     };
     let mut answer = SampleAnswer::Taken;
     let mut k: usize = 0;
@@ -136,7 +133,7 @@ pub fn take(config: Config, start: State, bits: &[u16]) -> Taking
         let active = (bits[k] ^ s1r) & fitted;
         let ending = running ^ (running & active);
         if ending > 0 {
-            let credits = settle(inputs, lines, &runs, ending);
+            let credits = settle(inputs, lines, ending);
             let units = credits.units;
             let booking = book(config, clock, units, amounts, tariffs);
             let booked = booking.booked;
@@ -148,7 +145,14 @@ pub fn take(config: Config, start: State, bits: &[u16]) -> Taking
             amounts = booked.amounts;
             tariffs = booking.tariffs;
         }
-        step_runs(&mut runs, active, active | running);
+        let mut left = active;
+        while left > 0 {
+            let i = u16::trailing_zeros(left) as usize;
+            let mut line = lines[i];
+            advance(&mut line.run, true);
+            lines[i] = line;
+            left = left & (left - 1);
+        }
         running = active;
         k += 1;
         if count < 99 {
@@ -168,7 +172,7 @@ pub fn take(config: Config, start: State, bits: &[u16]) -> Taking
         rest,
         clock,
         count,
-        put_runs(lines, runs),
+        lines,
         put_amounts(bills, amounts),
         k,
         answer,

@@ -1,13 +1,12 @@
 -- The laws of specs/Laws.antt.
-use mathlib.Core.Path.{_≡_, refl, sym, ap, _∙_}
-use mathlib.Core.Bool.{true, false, and-false}
-use Prim.Native.Nat.{ℕ, _%_}
-use borrow.Author.Tests.{le-ltb}
-use lib.Dec.{ltb}
-use Rattle.laws.specs.Answers.{given}
-use Rattle.calendar.specs.Moments.{momentOf, atSecond}
-use Rattle.calendar.specs.declared.Moment.{Moment}
-use Rattle.calendar.proofs.Moments.{always-dated, found-is-moment, moment-is-found, same-minute}
+use mathlib.Core.Path.{_≡_, refl, sym}
+use mathlib.Core.Bool.{false, and-false}
+use Prim.Native.Nat.{ℕ, _+_, _/_, _%_}
+use native.Mathlib.Omega.{arith}
+use borrow.Author.Tests.{le-ltb, eqb-false}
+use lib.Dec.{eqb, ltb}
+use Rattle.laws.specs.Tests.{by-test}
+use Rattle.calendar.specs.Moments.{yearDay, momentOf}
 use Rattle.tariff.specs.Daily.{dailyActive}
 use Rattle.tariff.specs.Weekly.{fitsAt, columnOn, referenceAt, weeklyActive}
 use Rattle.tariff.specs.Seasons.{seasonActive, inSeason}
@@ -42,13 +41,23 @@ pub second-makes-no-difference : SecondMakesNoDifference
 unfolding forceMap inForce applies weeklyActive columnOn
 second-makes-no-difference p m second = refl
 
+-- the seconds of a minute have one map, also past the clock's last
+one-map : (p : Program) (s t : ℕ) → s / 60 ≡ t / 60 → forceMapAt p s ≡ forceMapAt p t
+unfolding momentOf forceOf
+one-map p s t e =
+    let day : s / 86_400 ≡ t / 86_400 = omega arith in
+    let hour : s / 3_600 % 24 ≡ t / 3_600 % 24 = omega arith in
+    rw (day, hour, e)
+    (by-test (ltb (1970 + yearDay (t / 86_400) .years) 2107)
+    (λ b. rw b (second-makes-no-difference p _ (s % 60)))
+    (λ b. rw b))
+
 pub same-minute-same-map : SameMinuteSameMap
-unfolding forceOf
-same-minute-same-map p t u h k e =
-    let d = always-dated t h in
-    let m = d .0 in
-    let later = moment-is-found u (atSecond m (u % 60)) (same-minute t u m (found-is-moment t m (d .1)) e) in
-    sym (ap (forceOf p) (d .1)) ∙ (sym (second-makes-no-difference p m (u % 60)) ∙ ap (forceOf p) later)
+same-minute-same-map p t u h k e = one-map p t u e
+
+-- the map of a second is that of the second before, if no minute begins with it
+pub next-same : (p : Program) (s : ℕ) → eqb ((s + 1) % 60) 0 ≡ false → forceMapAt p (s + 1) ≡ forceMapAt p s
+next-same p s h = one-map p (s + 1) s (omega (arith, eqb-false ((s + 1) % 60) 0 h))
 
 pub weekday-and-minute : WeekdayAndMinute
 unfolding weeklyActive columnOn

@@ -1,7 +1,5 @@
--- What the code's searches and maps find, said of the rules; the laws of specs/Laws.antt; that the second of the minute makes no difference; that no second result
--- fits a contract.
+-- What the code's searches and maps find, said of the rules; the laws of specs/Laws.antt; that no second result fits a contract.
 pub mod Found
 pub mod Maps
 pub mod Laws
-pub mod Minutes
 pub mod Unique

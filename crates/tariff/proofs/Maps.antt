@@ -1,18 +1,18 @@
 -- The maps of the rules: what a bit of each says, and what the loops that make them read off the others.
 use mathlib.Core.Path.{_≡_, _∙_}
 use mathlib.Core.Bool.{Bool, false, _&&_, _||_, and-self-left}
-use Prim.Native.Nat.{ℕ, _<_, _≤_}
+use mathlib.Core.List.{List}
+use Prim.Native.Nat.{ℕ}
 use lib.Dec.{ltb, eqb}
-use borrow.Author.Tests.{lt-ltb, ltb-false}
+use borrow.Author.Tests.{lt-ltb}
 use Rattle.laws.specs.Tests.{by-test}
 use Rattle.laws.specs.Masks.{maskOf, bitAt, bit-at, mask-cong}
 use Rattle.calendar.specs.declared.Moment.{Moment}
 use Rattle.tariff.specs.Daily.{dailyActive, activeIn, dailyMap}
-use Rattle.tariff.specs.Weekly.{columnOn, referenceAt, minuteOf, weeklyActive, weeklyAt, weeklyMap}
+use Rattle.tariff.specs.Weekly.{columnOn, referenceIn, referenceAt, minuteOf, weeklyActive, weeklyAt, weeklyMap}
 use Rattle.tariff.specs.Seasons.{dateOf, seasonActive, seasonOn, seasonMap}
 use Rattle.tariff.specs.Rules.{ruleAt, applies, inForce, forceAt, forceMap}
 use Rattle.tariff.specs.declared.Date.{Date}
-use Rattle.tariff.specs.declared.Rule.{Rule}
 use Rattle.tariff.specs.declared.Program.{Program}
 
 -- bit r of the daily map is daily rule r
@@ -43,13 +43,13 @@ unfolding forceMap inForce
 force-bit p m i = bit-at 16 (forceAt p m) i ∙ and-self-left (ltb i 16) _
 
 -- the test that the code puts into the weekly map: the bit of the daily rule that is used
-unfoldable pub usedAt : Program → ℕ → ℕ → ℕ → Bool
-usedAt p daily column week = bitAt daily (referenceAt p week column)
+unfoldable pub usedAt : List ℕ → ℕ → ℕ → ℕ → Bool
+usedAt weeks daily column week = bitAt daily (referenceIn weeks week column)
 
 -- it makes the weekly map
 pub weekly-made : (p : Program) (m : Moment) (daily column minute : ℕ) → daily ≡ dailyMap p minute → minute ≡ minuteOf m → column ≡ columnOn p m
-    → maskOf 16 (usedAt p daily column) ≡ weeklyMap p m
-unfolding weeklyMap weeklyActive usedAt
+    → maskOf 16 (usedAt (p .weeks) daily column) ≡ weeklyMap p m
+unfolding weeklyMap weeklyActive usedAt referenceAt
 weekly-made p m daily column minute d i c =
     mask-cong 16 _ _ (λ week l. rw (d, i, c) (daily-bit p (minuteOf m) (referenceAt p week (columnOn p m))))
 

@@ -2,6 +2,7 @@
 -- fits."
 use mathlib.Core.Bool.{Bool, not, _&&_, _||_}
 use mathlib.Core.Option.{Option, some, none}
+use mathlib.Core.List.{List}
 use Prim.Native.Nat.{ℕ, _+_, _*_}
 use lib.Dec.{ltb, eqb}
 use lib.ListN.{getD}
@@ -57,8 +58,12 @@ unfoldable pub columnOn : Program → Moment → ℕ
 columnOn p m = columnOf (m .weekday) (holidayOn p m)
 
 -- the daily rule that a weekly rule names at a place; 255, none, past the 16 rules and the 8 places
+abbrev pub referenceIn : List ℕ → ℕ → ℕ → ℕ
+referenceIn weeks week column = if ltb week 16 && ltb column 8 then getD weeks (week * 8 + column) 0 else 255
+
+-- the same of a program
 unfoldable pub referenceAt : Program → ℕ → ℕ → ℕ
-referenceAt p week column = if ltb week 16 && ltb column 8 then getD (p .weeks) (week * 8 + column) 0 else 255
+referenceAt p week column = referenceIn (p .weeks) week column
 
 -- the minute of the day
 abbrev pub minuteOf : Moment → ℕ

@@ -5,7 +5,7 @@ ghost use mathlib.Core.Path.{_≡_};
 ghost use Prim.Native.Nat.{_<_, _^_};
 ghost use Rattle.laws.specs.Masks.{withBit, bitAt};
 ghost use Rattle.tariff.specs.Daily.{inWindow, dailyActive, dailyMap};
-ghost use Rattle.tariff.specs.Weekly.{fits, placeOf, firstHoliday, columnOf, columnOn, referenceAt, minuteOf, weeklyActive, weeklyMap};
+ghost use Rattle.tariff.specs.Weekly.{fits, placeOf, firstHoliday, columnOf, columnOn, referenceIn, minuteOf, weeklyActive, weeklyMap};
 ghost use Rattle.tariff.specs.Seasons.{dateOf, notAfter, inSeason, seasonActive, seasonMap};
 ghost use Rattle.tariff.specs.Rules.{inForce, forceMap, forceMapAt};
 
@@ -153,8 +153,8 @@ fn column_on(program: Program, m: Moment) -> u8
 }
 
 // The daily rule that a weekly rule names; 255 is none.
-fn reference(program: Program, week: u8, column: u8) -> u8
-    ensures { λ r. ⌜ r ≡ referenceAt program week column ⌝ }
+fn reference(weeks: [u8; 128], week: u8, column: u8) -> u8
+    ensures { λ r. ⌜ r ≡ referenceIn weeks week column ⌝ }
 {
     if week >= 16 {
         return 255;
@@ -162,7 +162,7 @@ fn reference(program: Program, week: u8, column: u8) -> u8
     if column >= 8 {
         return 255;
     }
-    program.weeks[(week as usize) * 8 + (column as usize)]
+    weeks[(week as usize) * 8 + (column as usize)]
 }
 
 fn minute_of(m: Moment) -> u16
@@ -174,7 +174,8 @@ fn minute_of(m: Moment) -> u16
 pub fn weekly_active(program: Program, week: u8, m: Moment) -> bool
     ensures { λ r. ⌜ r ≡ weeklyActive program week m ⌝ }
 {
-    let rule = reference(program, week, column_on(program, m));
+    let weeks = program.weeks;
+    let rule = reference(weeks, week, column_on(program, m));
     daily_active(program, rule, minute_of(m))
 }
 
@@ -184,9 +185,10 @@ pub fn weekly_map(program: Program, m: Moment) -> u16
 {
     let daily = daily_map(program, minute_of(m));
     let column = column_on(program, m);
+    let weeks = program.weeks;
     let mut map: u32 = 0;
     for week in 0..16usize {
-        let rule = reference(program, week as u8, column);
+        let rule = reference(weeks, week as u8, column);
         map = with_bit(map, week, bit_at(daily, rule));
     }
     map as u16

@@ -2,21 +2,17 @@
 use mathlib.Core.Bool.{and-false}
 use borrow.Author.Needs.{needs}
 use borrow.Author.Tests.{lt-ltb, le-ltb}
-use Rattle.tariff.specs.Weekly.{referenceAt}
 use Rattle.tariff.proofs.reference.Statement.{statement}
 use Rattle.tariff.proofs.reference.Tie as tie
 
 returns : tie.Need-returns
-unfolding referenceAt
 returns c = simp (le-ltb _ _ (c .if1 .taken))
 
 returns-2 : tie.Need-returns-2
-unfolding referenceAt
 returns-2 c = simp (le-ltb _ _ (c .if2 .taken), and-false)
 
 returns-3 : tie.Need-returns-3
-unfolding referenceAt
-returns-3 c = simp (lt-ltb _ _ (c .before .before .if1 .left), lt-ltb _ _ (c .before .if2 .left))
+returns-3 c = simp (lt-ltb _ _ (c .before .if1 .left), lt-ltb _ _ (c .if2 .left))
 
 pub reference-spec : {M : Type 1} → statement M
 reference-spec =

@@ -9,10 +9,10 @@ use Rattle.tariff.proofs.weekly_map.Statement.{statement}
 use Rattle.tariff.proofs.weekly_map.Tie as tie
 
 abbrev Inv-loop : tie.InvT-loop
-Inv-loop program daily column map₀ week₀ map week = (week ≤ 16) × (map ≡ maskOf week (usedAt program daily column))
+Inv-loop daily column weeks map₀ week₀ map week = (week ≤ 16) × (map ≡ maskOf week (usedAt weeks daily column))
 
 abbrev μ-loop : tie.MeasureT-loop
-μ-loop program daily column map₀ week₀ map week = 16 - week
+μ-loop daily column weeks map₀ week₀ map week = 16 - week
 
 loop-holds : tie.Need-loop-holds Inv-loop μ-loop
 loop-holds c = (search needs, mask-none _)
@@ -33,7 +33,7 @@ cast-result c = record { fits = rw (mask-done 16 _ _ _ (c .before .loop .inv .1)
 returns : tie.Need-returns Inv-loop μ-loop
 returns c =
     mask-done 16 _ _ _ (c .before .loop .inv .1) (c .before .loop .inv .0) (c .loop-test .left)
-    ∙ weekly-made _ _ _ _ _ (c .before .before .before .daily-map .ensures) (c .before .before .before .before .minute-of .ensures) (c .before .before .column-on .ensures)
+    ∙ weekly-made _ _ _ _ _ (c .before .before .before .before .daily-map .ensures) (c .before .before .before .before .before .minute-of .ensures) (c .before .before .before .column-on .ensures)
 
 pub weekly-map-spec : {M : Type 1} → statement M
 weekly-map-spec =

@@ -5,7 +5,6 @@ use Prim.Native.Nat.{_<_, _≤_, _^_}
 use native.Mathlib.Omega.{arith}
 use borrow.Author.Needs.{needs}
 use lib.Count.{trailingZeros, trailing-le}
-use lib.ListN.{getD}
 use Rattle.laws.specs.Tables.{table, table-self}
 use Rattle.counting.specs.Filter.{inputAt, lineAt}
 use Rattle.counting.specs.Units.{settled, settledUnits, settledAt, settledUnitsAt, settledOf}
@@ -14,27 +13,27 @@ use Rattle.counting.proofs.units.settle.Statement.{statement}
 use Rattle.counting.proofs.units.settle.Tie as tie
 
 abbrev Inv-loop : tie.InvT-loop
-Inv-loop runs ending inputs next₀ units₀ left₀ next units left =
+Inv-loop ending inputs next₀ units₀ left₀ next units left =
     (left < 2 ^ 16) × (trailingZeros 16 left ≤ 16)
-    × Half ending left (λ i. settled (inputAt inputs i) (lineAt next₀ i) (getD runs i 0)) (lineAt next₀) next
-    × Half ending left (λ i. settledUnits (inputAt inputs i) (lineAt next₀ i) (getD runs i 0)) (λ i. 0) units
+    × Half ending left (λ i. settled (inputAt inputs i) (lineAt next₀ i)) (lineAt next₀) next
+    × Half ending left (λ i. settledUnits (inputAt inputs i) (lineAt next₀ i)) (λ i. 0) units
 
 abbrev μ-loop : tie.MeasureT-loop
-μ-loop runs ending inputs next₀ units₀ left₀ next units left = left
+μ-loop ending inputs next₀ units₀ left₀ next units left = left
 
 loop-holds : tie.Need-loop-holds Inv-loop μ-loop
 unfolding table
 loop-holds c = (omega arith, trailing-le 16 _, half-start _ _ _ (sym (table-self 16 _ _ (search needs))), half-start _ _ _ refl)
 
 loop-less : tie.Need-loop-less Inv-loop μ-loop
-loop-less c = drop-less _ (c .before .before .before .before .before .before .before .before .loop-test .taken)
+loop-less c = drop-less _ (c .before .before .before .before .before .before .loop-test .taken)
 
 loop-again : tie.Need-loop-again Inv-loop μ-loop
 loop-again c =
-    let h = c .before .before .before .before .before .before .before .before .before .loop .inv in
-    let p = c .before .before .before .before .before .before .before .before .loop-test .taken in
+    let h = c .before .before .before .before .before .before .before .loop .inv in
+    let p = c .before .before .before .before .before .before .loop-test .taken in
     let n = half-next _ _ _ p (h .0) (h .2) in
-    (omega (arith, drop-less _ p), trailing-le 16 _, half-turn _ _ _ p (h .0) (h .2) (c .settle-line .ensures ∙ rw n), half-turn _ _ _ p (h .0) (h .3) (c .before .before .before .before .settle-units .ensures ∙ rw n))
+    (omega (arith, drop-less _ p), trailing-le 16 _, half-turn _ _ _ p (h .0) (h .2) (c .settle-line .ensures ∙ rw n), half-turn _ _ _ p (h .0) (h .3) (c .before .before .before .settle-units .ensures ∙ rw n))
 
 returns : tie.Need-returns Inv-loop μ-loop
 unfolding settledOf settledAt settledUnitsAt
@@ -54,11 +53,7 @@ settle-spec =
     (λ c. search (needs, lowest-below))
     (λ c. search needs)
     (λ c. search (needs, lowest-below))
-    (λ c. search needs)
-    (λ c. search (needs, lowest-below))
     (λ c κs. search needs)
-    (λ c. search needs)
-    (λ c. search (needs, lowest-below))
     (λ c. search needs)
     (λ c. search (needs, lowest-below))
     (λ c. search needs)

@@ -66,10 +66,11 @@ one = sample 0 ∷ sample 0 ∷ sample 2 ∷ []
 abbrev rejected : List Call
 rejected = sample 0 ∷ sample 2 ∷ replicate 9 (sample 3) ++ (sample 2 ∷ [])
 
--- from noon of 1.1.1970: by day; at 23:00; a reading; a reset, and on by night; the next day at 07:00; that night at 23:00, and a reading that is refused
+-- noon of 1.1.1970
 abbrev pub start : ℕ
 start = 43_200
 
+-- from then on: by day; at 23:00; a reading; a reset, and on by night; the next day at 07:00; that night at 23:00, and a reading that is refused
 abbrev pub calls : List Call
 calls =
     reverse

@@ -16,13 +16,15 @@ use Rattle.lines.specs.declared.Command.the-variants as command
 use Rattle.lines.specs.declared.Timed.{Timed}
 use Rattle.lines.specs.declared.Timed.the-variants as timed
 
--- word k as a number of 32, 16 and 8 bits
+-- word k as a number of 32 bits
 abbrev pub number32 : ℕ → List ℕ → Number
 number32 k text = numberOf 4294967295 (word k text)
 
+-- word k as a number of 16 bits
 abbrev pub number16 : ℕ → List ℕ → Number
 number16 k text = numberOf 65535 (word k text)
 
+-- word k as a number of 8 bits
 abbrev pub number8 : ℕ → List ℕ → Number
 number8 k text = numberOf 255 (word k text)
 
@@ -81,31 +83,39 @@ timeLine ask text =
 unfoldable pub aloneLine : Line → List ℕ → Line
 aloneLine ask text = if eqb (count text) 1 then ask else WrongCount
 
--- the first words, in letters: start, sample, set, reading, reset, register, image, date, fleet
+-- the letters of `start`
 abbrev pub startWord : List ℕ
 startWord = 115 ∷ 116 ∷ 97 ∷ 114 ∷ 116 ∷ []
 
+-- the letters of `sample`
 abbrev pub sampleWord : List ℕ
 sampleWord = 115 ∷ 97 ∷ 109 ∷ 112 ∷ 108 ∷ 101 ∷ []
 
+-- the letters of `set`
 abbrev pub setWord : List ℕ
 setWord = 115 ∷ 101 ∷ 116 ∷ []
 
+-- the letters of `reading`
 abbrev pub readingWord : List ℕ
 readingWord = 114 ∷ 101 ∷ 97 ∷ 100 ∷ 105 ∷ 110 ∷ 103 ∷ []
 
+-- the letters of `reset`
 abbrev pub resetWord : List ℕ
 resetWord = 114 ∷ 101 ∷ 115 ∷ 101 ∷ 116 ∷ []
 
+-- the letters of `register`
 abbrev pub registerWord : List ℕ
 registerWord = 114 ∷ 101 ∷ 103 ∷ 105 ∷ 115 ∷ 116 ∷ 101 ∷ 114 ∷ []
 
+-- the letters of `image`
 abbrev pub imageWord : List ℕ
 imageWord = 105 ∷ 109 ∷ 97 ∷ 103 ∷ 101 ∷ []
 
+-- the letters of `date`
 abbrev pub dateWord : List ℕ
 dateWord = 100 ∷ 97 ∷ 116 ∷ 101 ∷ []
 
+-- the letters of `fleet`
 abbrev pub fleetWord : List ℕ
 fleetWord = 102 ∷ 108 ∷ 101 ∷ 101 ∷ 116 ∷ []
 

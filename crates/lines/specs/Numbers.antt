@@ -35,10 +35,11 @@ noNumber = record { ok = false; value = 0 }
 unfoldable pub numberOf : ℕ → List ℕ → Number
 numberOf most w = if isNumber most w then record { ok = true; value = valueFrom 0 w } else noNumber
 
--- a number that is not negative, and a negative one
+-- a number that is not negative
 abbrev pub plain : Number → Signed
 plain n = record { ok = n .ok; value = pos (n .value) }
 
+-- a negative one
 abbrev pub opposite : Number → Signed
 opposite n = record { ok = n .ok; value = negℤ (pos (n .value)) }
 

@@ -130,13 +130,16 @@ pub fn take(config: Config, start: State, bits: &[u16]) -> Taking
             answer = SampleAnswer::ClockEnd;
             break;
         }
+        // S1r is active open; bits of inputs that are not fitted are ignored.
         let active = (bits[k] ^ s1r) & fitted;
+        // The first inactive sample after a run ends it.
         let ending = running ^ (running & active);
         if ending > 0 {
             let credits = settle(inputs, lines, ending);
             let units = credits.units;
             let booking = book(config, clock, units, amounts, tariffs);
             let booked = booking.booked;
+            // Nothing of this sample has been kept yet.
             if booked.full {
                 answer = SampleAnswer::Full;
                 break;
@@ -145,6 +148,7 @@ pub fn take(config: Config, start: State, bits: &[u16]) -> Taking
             amounts = booked.amounts;
             tariffs = booking.tariffs;
         }
+        // The runs of the active lines go on, one set bit after another.
         let mut left = active;
         while left > 0 {
             let i = u16::trailing_zeros(left) as usize;
@@ -159,6 +163,7 @@ pub fn take(config: Config, start: State, bits: &[u16]) -> Taking
             count += 1;
             continue;
         }
+        // After the hundredth the clock steps, and on a multiple the period closes.
         clock += 1;
         count = 0;
         tariffs = aged(tariffs, clock);

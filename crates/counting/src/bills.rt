@@ -132,7 +132,7 @@ pub fn book_amounts(
     }
 }
 
-// The open amounts of the bills, as numbers that can be lent.
+// The open amounts of the bills, as numbers.
 pub fn amounts_of(bills: [Bill; 16]) -> [u32; 16]
     ensures { λ r. ⌜ r ≡ amountsOf bills ⌝ }
 {

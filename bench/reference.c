@@ -232,7 +232,7 @@ static void tick(struct recorder *r) {
     uint32_t period = r->config.period;
     r->clock++;
     r->samples = 0;
-    r->on_known = 0;
+    if (r->clock % 60 == 0) r->on_known = 0;
     if (r->clock % period == 0) {
         close_period(r, r->first % period == 0 ? 2 : 1, r->clock);
         r->first = r->clock;
@@ -263,7 +263,7 @@ static void judge(const struct recorder *r, uint32_t ended, struct impulses *p) 
     }
 }
 
-/* The bill registers that units go to: those with no rule, and those whose rule is in force. Worked out when first asked for in a second. */
+/* The bill registers that units go to: those with no rule, and those whose rule is in force. Worked out when first asked for in a minute: no rule looks at seconds. */
 static uint32_t bills_on(struct recorder *r) {
     const struct config *c = &r->config;
     if (!r->on_known) {

@@ -47,7 +47,7 @@ struct recorder {
     uint8_t period_state;
     uint32_t period_stamp;
     int64_t values[SLOTS];
-    uint32_t on_known, on; /* the bill registers that units go to in the present second, if they were asked for */
+    uint32_t on_known, on; /* the bill registers that units go to in the present minute, if they were asked for */
 };
 
 /* 0, or refusal x 65,536 + offset. */

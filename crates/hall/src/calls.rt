@@ -80,6 +80,7 @@ fn take_samples(recorder: Recorder, bits: u16, count: u32) -> Counted {
         let counted = take_piece(now, &all[..n]);
         now = counted.recorder;
         if counted.refusal > 0 {
+            // A piece has at most 512 samples. The remainder changes nothing; it is there so that the sum is seen to fit.
             return Counted {
                 taken: ((count - left) as u64) + counted.taken % 1024,
                 refusal: counted.refusal,

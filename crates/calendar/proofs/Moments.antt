@@ -1,6 +1,6 @@
 -- The laws of specs/Laws.antt: what `momentOf` means, and how moments follow each other.
 use mathlib.Core.Path.{_≡_, refl, sym, ap, subst, _∙_}
-use mathlib.Core.Logic.{_↔_}
+use mathlib.Core.Logic.{_↔_, inl, inr}
 use mathlib.Core.Bool.{true}
 use Prim.Native.Nat.{ℕ, suc, _+_, _-_, _*_, _/_, _%_, _^_, _<_, _≤_}
 use native.Mathlib.Nat.{le-refl}
@@ -14,7 +14,7 @@ use Rattle.laws.specs.Spans.{span, span-low, span-high, span-below}
 use Rattle.laws.specs.Answers.{Answer, given, refused}
 use Rattle.calendar.specs.Dates.{leapYear, dayExists, monthLength, yearLength, dayNumber, weekdayOf}
 use Rattle.calendar.specs.Moments.{DateExists, dayOf, IsMoment, yearDay, momentAt, momentOf, atSecond, onDate, dayAfter}
-use Rattle.calendar.specs.Laws.{FoundIsMoment, MomentIsFound, OneMoment, NoDateExactly, AlwaysDated, OneDate, NextDay, SameMinute, SomeYear}
+use Rattle.calendar.specs.Laws.{FoundIsMoment, MomentIsFound, OneMoment, NoDateExactly, DatedOrNot, AlwaysDated, OneDate, NextDay, SameMinute, SomeYear}
 use Rattle.calendar.specs.declared.Moment.{Moment}
 use Rattle.calendar.proofs.Months.{no-month, months-fill, year-is, year-below, left-below, month-is, no-year, has-days, year-begins, year-ends}
 
@@ -100,14 +100,17 @@ found t h =
     (_, moment-is-found t _ i, i)
 
 -- each second has a moment of the years to 2106, or its day is past them
-dated-or-not : {P : Type 0} (t : ℕ) → ((m : Moment) → given m ≡ momentOf t → IsMoment t m → P) → (refused 9 0 ≡ momentOf t → P) → P
-dated-or-not t on none =
+by-date : {P : Type 0} (t : ℕ) → ((m : Moment) → given m ≡ momentOf t → IsMoment t m → P) → (refused 9 0 ≡ momentOf t → P) → P
+by-date t on none =
     by-test (ltb (t / 86_400) 50_038)
     (λ l. let f = found t (ltb-true _ _ l) in on (f .0) (f .1) (f .2))
     (λ g. none (no-year t (ltb-false _ _ g)))
 
 pub found-is-moment : FoundIsMoment
-found-is-moment t m e = dated-or-not t (λ n f i. subst (IsMoment t) (cc) i) (λ r. absurd (not-refused m 9 (cc)))
+found-is-moment t m e = by-date t (λ n f i. subst (IsMoment t) (cc) i) (λ r. absurd (not-refused m 9 (cc)))
+
+pub dated-or-not : DatedOrNot
+dated-or-not t = by-date t (λ m e i. inl (m, sym e)) (λ e. inr (sym e))
 
 pub one-moment : OneMoment
 one-moment t m n i j = let e : given m ≡ given n = moment-is-found t m i ∙ sym (moment-is-found t n j) in cc
@@ -115,7 +118,7 @@ one-moment t m n i j = let e : given m ≡ given n = moment-is-found t m i ∙ s
 pub no-date-exactly : NoDateExactly
 no-date-exactly t = (
   λ e m i. not-refused m 9 (moment-is-found t m i ∙ sym e),
-  λ h. dated-or-not t (λ m f i. absurd (h m i)) (λ r. r),
+  λ h. by-date t (λ m f i. absurd (h m i)) (λ r. r),
 )
 
 pub always-dated : AlwaysDated

@@ -1,7 +1,7 @@
 -- What is proved of dates and moments (proofs/Moments.antt). The layers above build on these laws and not on how a moment is found.
 use mathlib.Core.Path.{_≡_}
 use mathlib.Core.Bool.{true}
-use mathlib.Core.Logic.{_↔_}
+use mathlib.Core.Logic.{_⊎_, _↔_}
 use Prim.Native.Nat.{ℕ, _+_, _/_, _%_, _^_, _<_}
 use Rattle.laws.specs.Answers.{given, refused}
 use Rattle.calendar.specs.Dates.{dayExists, existsInSomeYear, dayNumber}
@@ -23,6 +23,10 @@ OneMoment = (t : ℕ) (m n : Moment) → IsMoment t m → IsMoment t n → m ≡
 -- 9 NO DATE is given exactly when a second has no moment
 abbrev pub NoDateExactly : Type 0
 NoDateExactly = (t : ℕ) → (refused 9 0 ≡ momentOf t) ↔ ((m : Moment) → IsMoment t m → ⊥)
+
+-- a second has a moment, or is refused with 9
+abbrev pub DatedOrNot : Type 0
+DatedOrNot = (t : ℕ) → ((m : Moment) × (momentOf t ≡ given m)) ⊎ (momentOf t ≡ refused 9 0)
 
 -- each second of the clock has a moment
 abbrev pub AlwaysDated : Type 0

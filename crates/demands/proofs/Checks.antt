@@ -1,19 +1,23 @@
 -- That the account's definitions say what document 01 says: stretches may be counted at either end, and the scale is exact. And the third demand in one.
 use mathlib.Core.Path.{_≡_, refl, sym, ap, _∙_}
-use mathlib.Core.Bool.{Bool, true, false, not, _&&_}
+use mathlib.Core.Bool.{Bool, true, false, not, _&&_, and-false}
 use mathlib.Core.List.{List, [], _∷_, _++_}
 use mathlib.Core.Logic.{⊎-elim}
-use Prim.Native.Nat.{ℕ, zero, suc, _+_, _*_, _/_, _<_}
+use Prim.Native.Nat.{ℕ, zero, suc, _+_, _*_, _/_, _<_, min}
 use native.Mathlib.Nat.{mul-assoc, mul-comm, mul-one, mul-div-cancel-left, eq-or-lt-of-le, le-of-suc-le-suc}
 use native.Mathlib.Omega.{arith}
+use lib.Dec.{ltb, leb}
+use borrow.Author.Tests.{leb-true, leb-false, lt-leb}
 use Rattle.laws.specs.If.{if_then_else_}
+use Rattle.laws.specs.Tests.{by-test}
 use Rattle.laws.specs.Masks.{bit, bitAt}
 use Rattle.settings.specs.declared.Config.{Config}
 use Rattle.counting.specs.Filter.{inputAt}
-use Rattle.demands.specs.Account.{Event, took, cleared, Sample, whole, since, running, stretchesOf, feeding, productOf}
-use Rattle.demands.specs.Demand3.{endsOf, oldestOn, StretchesThatCount, ScaleIsExact, Demand3}
-use Rattle.demands.proofs.Demand3.{feeds-fitted, open-amount, plain-bills, amounts-add-up}
-use Rattle.demands.proofs.Starts.{start-is-fresh}
+use Rattle.sampling.specs.Samples.{activeAt}
+use Rattle.demands.specs.Account.{Entry, took, ended, cleared, heard, Sample, runOf, whole, since, feeding}
+use Rattle.demands.specs.Energy.{running, stretchesOf, productOf}
+use Rattle.demands.specs.Demand3.{endsOf, oldestOn, StretchesThatCount, ScaleIsExact, runOnAndOn, HoldIsHarmless, Demand3}
+use Rattle.demands.proofs.Demand3.{feeds-divide, open-amount, plain-bills, amounts-add-up, amounts-are-the-sums}
 
 ends-step : (t w r : Bool) (n m : ℕ) → n + bit (t && r) ≡ m → bit (t && not w) + n + bit (w && t) ≡ m + bit (t && not r)
 ends-step true true true n m h = omega arith
@@ -40,14 +44,16 @@ split : (on : ℕ → Bool) (new old : List Sample) → stretchesOf on (new ++ o
 split on new old = omega (arith, either-end on (new ++ old), either-end on new, ends-append on false new old)
 
 -- the samples since the last reset are the newer ones of all
-since-front : (c : Config) (l : List Event) → (older : List Sample) × (whole c l ≡ since c l ++ older)
+since-front : (c : Config) (l : List Entry) → (older : List Sample) × (whole c l ≡ since c l ++ older)
 since-front c [] = ([], refl)
 since-front c (took bits t ∷ l) = let (older, e) = since-front c l in (older, rw e)
-since-front c (cleared ∷ l) = (whole c l, refl)
+since-front c (ended state t ∷ l) = since-front c l
+since-front c (cleared t ∷ l) = (whole c l, refl)
+since-front c (heard t meter v status seq ∷ l) = since-front c l
 
 pub stretches-that-count : StretchesThatCount
-stretches-that-count c on events =
-    let (older, e) = since-front c events in (older, e, ap (stretchesOf on) e ∙ split on (since c events) older)
+stretches-that-count c on journal =
+    let (older, e) = since-front c journal in (older, e, ap (stretchesOf on) e ∙ split on (since c journal) older)
 
 -- a product of denominators is a multiple of each, here with a factor m
 exact-times : (named : ℕ → Bool) (d : ℕ → ℕ) (n m i : ℕ) → i < n → named i ≡ true → 0 < d i → productOf named d n * m / d i * d i ≡ productOf named d n * m
@@ -71,16 +77,43 @@ exact-times named d (suc n) m i l e pos =
 
 pub scale-is-exact : ScaleIsExact
 scale-is-exact c a j used i l e =
-    simp mul-one at (exact-times (bitAt (feeding c j)) (λ k. inputAt (c .inputs) k .denominator) 16 1 i l e (feeds-fitted c a j used i l e .divides))
+    simp mul-one at (exact-times (bitAt (feeding c j)) (λ k. inputAt (c .inputs) k .denominator) 16 1 i l e (feeds-divide c a j used i l e))
+
+-- a run that is held at 256, above the longest, ends an impulse exactly when the full run does
+held-range : (short long run : ℕ) (off : Bool) → long < 256
+    → ((off && ltb 0 (min 256 run)) && (leb short (min 256 run) && leb (min 256 run) long)) ≡ ((off && ltb 0 run) && (leb short run && leb run long))
+held-range short long run off h =
+    by-test (leb run 256)
+    (λ e. let same : min 256 run ≡ run = omega (arith, leb-true run 256 e) in rw same)
+    (λ e.
+    let more = leb-false run 256 e in
+    let a : leb (min 256 run) long ≡ false = lt-leb (min 256 run) long (omega arith) in
+    let b : leb run long ≡ false = lt-leb run long (omega arith) in
+    rw (a, b) (simp and-false))
+
+-- the run of the account is the full run, held
+run-held : (c : Config) (i : ℕ) (journal : List Entry) → runOf c i journal ≡ min 256 (runOnAndOn c i journal)
+run-held c i [] = omega arith
+run-held c i (took bits t ∷ l) =
+    by-test (activeAt (c .inputs) bits i) (λ on. rw on (omega (arith, run-held c i l))) (λ off. rw off (omega arith))
+run-held c i (ended state t ∷ l) = run-held c i l
+run-held c i (cleared t ∷ l) = run-held c i l
+run-held c i (heard t meter v status seq ∷ l) = run-held c i l
+
+pub hold-is-harmless : HoldIsHarmless
+hold-is-harmless c accepted bits journal i l =
+    rw (run-held c i journal)
+    (held-range (inputAt (c .inputs) i .shortest) (inputAt (c .inputs) i .longest) (runOnAndOn c i journal) (not (activeAt (c .inputs) bits i)) (accepted .bytes i l))
 
 -- all of it
 pub demand-3 : Demand3
 demand-3 =
     record {
-      start-is-fresh = start-is-fresh;
       open-amount = open-amount;
       plain-bills = plain-bills;
       amounts-add-up = amounts-add-up;
+      amounts-are-the-sums = amounts-are-the-sums;
       stretches-that-count = stretches-that-count;
       scale-is-exact = scale-is-exact;
+      hold-is-harmless = hold-is-harmless;
     }

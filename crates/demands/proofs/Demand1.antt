@@ -9,22 +9,23 @@ use native.Mathlib.Omega.{arith}
 use borrow.Author.Tests.{not-true, not-false, eqb-true, eqb-false, eq-eqb, ltb-true, lt-ltb, leb-true, leb-false, le-leb, lt-leb}
 use lib.Dec.{eqb, ltb, leb}
 use lib.IntN.{ℤ}
-use lib.ListN.{length, getD, drop}
+use lib.ListN.{length, getD, take, drop}
 use Rattle.laws.specs.Tests.{by-test, and-left, and-right, and-both, or-right}
 use Rattle.laws.specs.Any.{any, any-not}
 use Rattle.laws.specs.Answers.{Answer, given, refused}
 use Rattle.laws.specs.Broken.{firstBroken}
 use Rattle.laws.specs.Bytes.{le}
 use Rattle.laws.specs.Each.{Each}
-use Rattle.calendar.specs.Moments.{yearDay, momentOf}
+use Rattle.calendar.specs.Moments.{momentOf}
 use Rattle.calendar.specs.declared.Moment.{Moment}
 use Rattle.image.specs.Image.{decode}
 use Rattle.settings.specs.Check.{Section, sections, FirstBadAt, firstBad, checked}
 use Rattle.image.specs.Answers.{marked, imageAnswer, writeAnswer, afterWrite}
 use Rattle.settings.specs.declared.Config.{Config}
+use Rattle.calendar.proofs.Moments.{dated-or-not}
 use Rattle.image.proofs.Found.{value-exactly}
 use Rattle.counting.specs.Bills.{fills, fillsAt, bookedOf}
-use Rattle.sampling.specs.Samples.{bookingOf, bookingOn, clockEnd, sampleOf}
+use Rattle.sampling.specs.Samples.{bookingOf, bookingOn, clockEnd, sampleOf, samplesOf}
 use Rattle.recorder.specs.Clock.{setOf}
 use Rattle.recorder.specs.Meters.{classOf, ageOf, readingOf}
 use Rattle.recorder.specs.Calls.{startReply, sampleReply, setReply, readingReply, replyTo}
@@ -34,7 +35,7 @@ use Rattle.sampling.specs.declared.State.{State}
 use Rattle.registers.specs.Registers.{Group, groups, lookUp, groupOf, replyOf, registerReply}
 use Rattle.registers.proofs.Groups.{none-found}
 use Rattle.registers.proofs.Laws.{refused-leaves}
-use Rattle.demands.specs.Demand1.{Refusal, at, Ordered, numbered, imageRefusals, noDate, sampleRefusals, readingRefusals, registerRefusals, writeRefusals, ageRefusals, NumbersExact, RefusedChangesNothing, Demand1}
+use Rattle.demands.specs.Demand1.{Refusal, at, Ordered, numbered, imageRefusals, noDate, sampleRefusals, readingRefusals, registerRefusals, writeRefusals, ageRefusals, RunEnds, NumbersExact, RefusedChangesNothing, Demand1}
 
 -- a refusal whose condition is a test, and what comes after it
 next : {A : Type 0} (n o : ℕ) {when : Type 0} (rest : List Refusal) (test : Bool) (a : Answer A)
@@ -112,22 +113,14 @@ image-then b rest a is after =
 pub images : (b : List ℕ) → Ordered (imageRefusals b) (imageAnswer b)
 images b = image-then b [] (imageAnswer b) (λ n o e. e) (λ e. done tt _ e)
 
--- a time without a date is refused with 9
-pub no-date-9 : (time n o : ℕ) → momentOf time ≡ refused n o → momentOf time ≡ refused 9 0
-unfolding momentOf
-no-date-9 time n o e =
-    by-test (ltb (1970 + yearDay (time / 86_400) .years) 2107)
-    (λ t. absurd (true≢false (ap is-given (rw t at e)))) (λ f. rw f)
-
 -- a refusal for want of a date, and what comes after it
 date-then : {A : Type 0} (time : ℕ) (rest : List Refusal) (a : Answer A) → (momentOf time ≡ refused 9 0 → a ≡ refused 9 0)
     → ((m : Moment) → momentOf time ≡ given m → Ordered rest a) → Ordered (noDate time ∷ rest) a
 unfolding Ordered
-date-then {A} time rest a is after = go (momentOf time) refl
-  where
-    go : (m : Answer Moment) → momentOf time ≡ m → Ordered (noDate time ∷ rest) a
-    go (given m) e = inr ((λ offset d. d .1 m e), after m e)
-    go (refused n o) e = inl (0, (refl, λ m f. true≢false (sym (ap is-given (sym e ∙ f)))), is (no-date-9 time n o e))
+date-then time rest a is after =
+    ⊎-elim (λ d. inr ((λ offset none. none .1 (d .0) (d .1)), after (d .0) (d .1)))
+    (λ e. inl (0, (refl, λ m f. true≢false (sym (ap is-given (sym e ∙ f)))), is e))
+    (dated-or-not time)
 
 pub starts : (b : List ℕ) (time : ℕ) → Ordered (imageRefusals b ++ (noDate time ∷ [])) (startReply b time .answer)
 starts b time =
@@ -246,13 +239,51 @@ registers r group register buffer = go (groupOf group) refl
     go (given g) e =
         inr ((λ offset due. true≢false (ap is-given (sym e ∙ none-found groups group (due .1)))), rw e (in-table r register buffer g))
 
+-- Runs of samples
+
+-- no refusal of a sample has the number 0
+pub refused-some : (c : Config) (s : State) (bits n o : ℕ) → sampleOf c s bits ≡ refused n o → n ≡ 0 → ⊥
+unfolding sampleOf
+refused-some c s bits n o e z =
+    by-test (clockEnd s)
+    (λ t. let five : refused 5 0 ≡ refused n o = rw t at e in let q : 5 ≡ n = cc in omega arith)
+    (λ f.
+    by-test (bookingOn c s bits .full)
+    (λ t. let six : refused 6 0 ≡ refused n o = rw (f, t) at e in let q : 6 ≡ n = cc in omega arith)
+    (λ g. let none = rw (f, g) at e in let q : _≡_ {A = ℕ} 0 1 = cc in omega arith))
+
+-- a recorder with another state
+abbrev on : Config → State → Recorder
+on c s = record { config = c; state = s }
+
+run-ends : (c : Config) (s : State) (run : List ℕ) → RunEnds (on c s) run
+unfolding samplesOf
+run-ends c s [] = inl (refl, refl)
+run-ends c s (bits ∷ more) = go (λ later. run-ends c later more) (sampleOf c s bits) refl
+  where
+    go : ((later : State) → RunEnds (on c later) more) → (a : Answer State) → sampleOf c s bits ≡ a → RunEnds (on c s) (bits ∷ more)
+    go rest (given later) e =
+        rw e (⊎-elim (λ all. inl (ap suc (all .0), all .1)) (λ some. inr (omega (arith, some .0), some .1, some .2)) (rest later))
+    go rest (refused n o) e = rw e (inr (omega arith, refused-some c s bits n o e, rw e at (samples (on c s) bits)))
+
+run-leaves : (c : Config) (s : State) (run : List ℕ) → samplesOf c s run .state ≡ samplesOf c s (take (samplesOf c s run .taken) run) .state
+unfolding samplesOf
+run-leaves c s [] = refl
+run-leaves c s (bits ∷ more) = go (λ later. run-leaves c later more) (sampleOf c s bits) refl
+  where
+    go : ((later : State) → samplesOf c later more .state ≡ samplesOf c later (take (samplesOf c later more .taken) more) .state)
+        → (a : Answer State) → sampleOf c s bits ≡ a
+        → samplesOf c s (bits ∷ more) .state ≡ samplesOf c s (take (samplesOf c s (bits ∷ more) .taken) (bits ∷ more)) .state
+    go rest (given later) e = rw (e, e) (rest later)
+    go rest (refused n o) e = rw e
+
 pub numbers-exact : NumbersExact
 numbers-exact =
-    record { images = images; starts = starts; samples = samples; sets = sets; readings = readings; registers = registers; ages = ages; writes = writes }
+    record { images = images; starts = starts; samples = samples; runs = λ r run. run-ends (r .config) (r .state) run; sets = sets; readings = readings; registers = registers; ages = ages; writes = writes }
 
 -- a refused call leaves the state
 reply-leaves : (s : State) (a : Answer State) → (replyTo s a .number ≡ 0 → ⊥) → replyTo s a .state ≡ s
-reply-leaves s (given next) h = absurd (h refl)
+reply-leaves s (given later) h = absurd (h refl)
 reply-leaves s (refused n o) h = refl
 
 -- a recorder with a state put in
@@ -264,6 +295,7 @@ unfolding afterWrite
 refused-changes-nothing =
     record {
       samples = λ r bits h. ap (beside-state r) (reply-leaves (r .state) (sampleOf (r .config) (r .state) bits) h);
+      runs = λ r run. ap (beside-state r) (run-leaves (r .config) (r .state) run);
       sets = λ r time h. ap (beside-state r) (reply-leaves (r .state) (setOf (r .config) (r .state) time) h);
       readings = λ r meter v status seq h. ap (beside-state r) (reply-leaves (r .state) (readingOf (r .config) (r .state) meter v status seq) h);
       registers = refused-leaves;

@@ -1,16 +1,19 @@
--- The example's numbers, computed.
-use mathlib.Core.Path.{refl}
+-- The example's numbers: the account is computed, and the recorder's numbers are the account's by the theorems.
+use mathlib.Core.Path.{_≡_, refl, ap, _∙_}
+use mathlib.Core.List.{List}
 use Prim.Native.Nat.{ℕ, zero, suc, _<_}
 use native.Mathlib.Nat.{not-suc-le-zero, le-of-suc-le-suc}
 use native.Mathlib.Omega.{arith}
 use borrow.Author.Tests.{ltb-true}
+use lib.IntN.{pos}
 use lib.ListN.{replicate}
 use Rattle.laws.specs.First.{first}
 use Rattle.laws.specs.Any.{any}
 use Rattle.laws.specs.Total.{total}
 use Rattle.laws.specs.Spans.{span}
 use Rattle.laws.specs.Masks.{maskOf, bitAt}
-use Rattle.laws.specs.Tables.{table}
+use Rattle.laws.specs.SignedTotal.{totalℤ}
+use Rattle.laws.specs.Tables.{table, table-cong}
 use Rattle.calendar.specs.Dates.{monthLength, yearLength}
 use Rattle.calendar.specs.Moments.{yearDay, momentOf}
 use Rattle.tariff.specs.Daily.{windowActive, dailyActive}
@@ -20,25 +23,30 @@ use Rattle.tariff.specs.Rules.{applies, inForce, forceMap, forceOf}
 use Rattle.settings.specs.Rules.{noInput, fittedIn, sumGood}
 use Rattle.settings.specs.Check.{sections, firstBad, checked}
 use Rattle.image.proofs.Found.{good-exactly}
-use Rattle.counting.specs.Filter.{inputAt, accepted, filtered, filteredAt, acceptedAt, steppedOf}
-use Rattle.counting.specs.Units.{unitsOf, remainderOf, credited, creditIf, unitsIf, creditedAt, unitsAt, creditsOf}
-use Rattle.counting.specs.Bills.{namedPart, sumOf, sumAt, sumsOf, registerUnits, dueOf, fills, billed, dueAt, fillsAt, billedAt, bookedOf}
-use Rattle.counting.specs.Levels.{level0At, level0, termAt, level2, inputValue, sumValue, functionValue, slotValue, slotValueAt, slotValues}
-use Rattle.sampling.specs.Periods.{multiple, cleared, clearedAt, clearedLines, closedAs, tickOf}
-use Rattle.sampling.specs.Samples.{bookingOf, activeAt, activeLines, countedOf, sampleOf}
-use Rattle.recorder.specs.Clock.{setTo, setOf, closedBill, closedBillAt, resetOf}
-use Rattle.recorder.specs.Meters.{readingOf}
-use Rattle.recorder.specs.Calls.{freshState}
-use Rattle.recorder.specs.History.{afterAll}
+use Rattle.counting.specs.Filter.{inputAt}
+use Rattle.counting.specs.Bills.{registerAt, namedPart, sumOf}
+use Rattle.sampling.specs.Periods.{multiple}
+use Rattle.sampling.specs.Samples.{activeAt}
+use Rattle.recorder.specs.History.{Call, reading}
 use Rattle.recorder.specs.Laws.{Good}
-use Rattle.demands.specs.Account.{booksAt, feeding, productOf}
-use Rattle.demands.specs.Demand3.{OnSumOf}
-use Rattle.demands.specs.Example.{twoMakers, firstTwo, Numbers, Needed}
+use Rattle.demands.specs.Account.{Entry, Account, booksAt, feeding, amountOf, overfull, sampleNumber, readingNumber, stepped, counted, withCall, accountOf, journalOf}
+use Rattle.demands.specs.Energy.{productOf}
+use Rattle.demands.specs.State.{valueOf, stateOf}
+use Rattle.demands.specs.Shown.{awakeIn, fleetIn}
+use Rattle.demands.specs.Demand3.{openOf, closedOf, InUse, OnSum}
+use Rattle.demands.specs.Example.{twoMakers, start, calls, account, byDay, dayAndNightThrice, firstTwo, Numbers, Needed}
+use Rattle.demands.proofs.Agrees.{answers-of-history}
+use Rattle.demands.proofs.Demand3.{open-is, closed-is}
+use Rattle.demands.proofs.Bills.{closedIn}
 
 -- the check finds nothing
 is-good : Good twoMakers
 unfolding checked firstBad sections first fittedIn sumGood any bitAt
 is-good = good-exactly twoMakers .0 refl
+
+happened : accountOf twoMakers start calls ≡ account
+unfolding first any total span maskOf bitAt table monthLength yearLength yearDay momentOf windowActive dailyActive fitsAt firstHoliday columnOn referenceAt weeklyActive inSeason seasonActive applies inForce forceMap forceOf namedPart sumOf multiple activeAt booksAt feeding amountOf overfull sampleNumber readingNumber stepped counted withCall accountOf
+happened = refl
 
 -- a longest run of the example is a byte
 runs-bytes : (i : ℕ) → i < 16 → inputAt (twoMakers .inputs) i .longest < 256
@@ -52,20 +60,40 @@ runs-bytes (suc (suc (suc i))) l = unused 13 i
     unused (suc n) zero = omega arith
     unused (suc n) (suc i) = unused n i
 
--- registers 0 and 1 are on the sum of register 2
-first-two : OnSumOf twoMakers 2 firstTwo
+-- the first eight registers are in use
+in-use : (j : ℕ) → j < 8 → InUse twoMakers j
+in-use zero l = (omega arith, omega arith)
+in-use (suc zero) l = (omega arith, omega arith)
+in-use (suc (suc zero)) l = (omega arith, omega arith)
+in-use (suc (suc (suc zero))) l = (omega arith, omega arith)
+in-use (suc (suc (suc (suc zero)))) l = (omega arith, omega arith)
+in-use (suc (suc (suc (suc (suc zero))))) l = (omega arith, omega arith)
+in-use (suc (suc (suc (suc (suc (suc zero)))))) l = (omega arith, omega arith)
+in-use (suc (suc (suc (suc (suc (suc (suc zero))))))) l = (omega arith, omega arith)
+in-use (suc (suc (suc (suc (suc (suc (suc (suc j)))))))) l = absurd (omega arith)
+
+-- registers 0 and 1 are on sum 0
+first-two : OnSum twoMakers 0 firstTwo
 first-two zero l e = ((l, omega arith), refl)
 first-two (suc zero) l e = ((l, omega arith), refl)
 first-two (suc (suc j)) l e = absurd (not-suc-le-zero (le-of-suc-le-suc (le-of-suc-le-suc (ltb-true (suc (suc j)) 2 e))))
 
+-- the recorder's amounts are those of the journal
+opened-as : table 8 (λ j. openOf twoMakers start j calls) ≡ table 8 (λ j. amountOf twoMakers j (account .journal))
+opened-as = table-cong 8 _ _ (λ j l. open-is twoMakers start calls j (in-use j l) ∙ ap (λ (a : Account). amountOf twoMakers j (a .journal)) happened)
+
+closed-as : table 8 (λ j. closedOf twoMakers start j calls) ≡ table 8 (λ j. closedIn twoMakers j (account .journal))
+closed-as = table-cong 8 _ _ (λ j l. closed-is twoMakers start calls j (in-use j l) ∙ ap (λ (a : Account). closedIn twoMakers j (a .journal)) happened)
+
 pub numbers : Numbers
-unfolding first any total span maskOf bitAt table monthLength yearLength yearDay momentOf windowActive dailyActive fitsAt firstHoliday columnOn referenceAt weeklyActive inSeason seasonActive applies inForce forceMap forceOf accepted filtered filteredAt acceptedAt steppedOf unitsOf remainderOf credited creditIf unitsIf creditedAt unitsAt creditsOf namedPart sumOf sumAt sumsOf registerUnits dueOf fills billed dueAt fillsAt billedAt bookedOf level0At level0 termAt level2 inputValue sumValue functionValue slotValue slotValueAt slotValues multiple cleared clearedAt clearedLines closedAs tickOf bookingOf activeAt activeLines countedOf sampleOf setTo setOf closedBill closedBillAt resetOf readingOf freshState afterAll booksAt feeding productOf
+unfolding first any total span maskOf bitAt table monthLength yearLength yearDay momentOf windowActive dailyActive fitsAt firstHoliday columnOn referenceAt weeklyActive inSeason seasonActive applies inForce forceMap forceOf namedPart sumOf multiple activeAt booksAt feeding amountOf overfull sampleNumber readingNumber stepped counted withCall accountOf productOf totalℤ valueOf stateOf awakeIn fleetIn
 numbers =
     record {
       accepted = record { good = is-good; bytes = runs-bytes };
-      happened = refl;
-      opened = refl;
-      closed = refl;
+      happened = happened;
+      not-fitted = answers-of-history twoMakers start calls (reading 4 (pos 5) 0 0);
+      opened = opened-as;
+      closed = closed-as;
       inputs = refl;
       scales = refl;
       energy = refl;
@@ -73,8 +101,19 @@ numbers =
       total = refl;
       shared = first-two;
       once = (refl, (refl, (refl, (refl, (refl, (refl, (refl, (refl, (refl, (refl, (refl, (refl, (refl, (refl, (refl, (refl, (refl, (refl, (refl, tt)))))))))))))))))));
+      all-units = refl;
+      state = refl;
+      fleet = refl;
     }
 
 pub needed : Needed
-unfolding first any total span maskOf bitAt table monthLength yearLength yearDay momentOf windowActive dailyActive fitsAt firstHoliday columnOn referenceAt weeklyActive inSeason seasonActive applies inForce forceMap forceOf accepted filtered filteredAt acceptedAt steppedOf unitsOf remainderOf credited creditIf unitsIf creditedAt unitsAt creditsOf namedPart sumOf sumAt sumsOf registerUnits dueOf fills billed dueAt fillsAt billedAt bookedOf level0At level0 termAt level2 inputValue sumValue functionValue slotValue slotValueAt slotValues multiple cleared clearedAt clearedLines closedAs tickOf bookingOf activeAt activeLines countedOf sampleOf setTo setOf closedBill closedBillAt resetOf readingOf freshState afterAll booksAt feeding productOf
-needed = record { few = refl; owed = refl; one-stretch = refl; many = refl; less = refl; three-stretches = refl }
+unfolding first any total span maskOf bitAt table monthLength yearLength yearDay momentOf windowActive dailyActive fitsAt firstHoliday columnOn referenceAt weeklyActive inSeason seasonActive applies inForce forceMap forceOf namedPart sumOf multiple activeAt booksAt feeding amountOf overfull sampleNumber readingNumber stepped counted withCall accountOf productOf
+needed =
+    record {
+      few = open-is twoMakers start byDay 2 (in-use 2 (omega arith));
+      owed = refl;
+      one-stretch = refl;
+      many = open-is twoMakers start dayAndNightThrice 4 (in-use 4 (omega arith));
+      less = refl;
+      three-stretches = refl;
+    }

@@ -1,38 +1,45 @@
--- FULL inside a history: the example's 6,249 impulses of 160,000 units, by induction over the impulses.
-use mathlib.Core.Path.{_≡_, refl, sym, ap, subst, _∙_}
-use mathlib.Core.Bool.{Bool, true, false}
-use mathlib.Core.List.{List, _∷_}
-use Prim.Native.Nat.{ℕ, zero, suc, _+_, _*_, _<_, _≤_}
+-- FULL and whole periods inside a history: the account of the example's 6,249 impulses of 160,000 units, by induction over the impulses; the recorder's numbers are the account's.
+use mathlib.Core.Path.{_≡_, refl, sym, ap, ap₂, subst, _∙_}
+use mathlib.Core.Bool.{Bool, true, false, _&&_, not, and-false}
+use mathlib.Core.List.{List, [], _∷_}
+use Prim.Native.Nat.{ℕ, zero, suc, _+_, _-_, _*_, _/_, _%_, _<_, _≤_}
+use native.Mathlib.Nat.{div-one, mul-mod-left}
 use native.Mathlib.Omega.{arith}
-use lib.Dec.{eqb}
+use lib.Dec.{ltb, eqb}
+use lib.IntN.{pos, negsuc}
 use lib.ListN.{replicate, getD-replicate}
-use borrow.Author.Tests.{lt-ltb, ne-eqb}
-use Rattle.laws.specs.If.{if_then_else_, if-cases}
+use borrow.Author.Tests.{lt-ltb, le-ltb, ltb-true, eq-eqb, ne-eqb, eqb-true, eqb-false}
+use Rattle.laws.specs.If.{if_then_else_}
+use Rattle.laws.specs.Tests.{by-test}
 use Rattle.laws.specs.First.{first}
-use Rattle.laws.specs.Any.{any}
+use Rattle.laws.specs.Any.{any, any-at, any-none}
 use Rattle.laws.specs.Total.{total}
+use Rattle.laws.specs.SignedTotal.{totalℤ}
 use Rattle.laws.specs.Masks.{bit, maskOf, bitAt, bit-at, bit-zero}
+use Rattle.laws.specs.Tables.{table, table-cong}
 use Rattle.settings.specs.Rules.{fittedIn, sumGood}
 use Rattle.settings.specs.Check.{sections, firstBad, checked}
 use Rattle.settings.specs.declared.Config.{Config}
 use Rattle.settings.specs.declared.Input.{Input}
 use Rattle.image.proofs.Found.{good-exactly}
-use Rattle.counting.specs.Filter.{inputAt, accepted}
-use Rattle.counting.specs.Units.{unitsOf, remainderOf}
-use Rattle.counting.specs.Bills.{registerAt, sumOf}
-use Rattle.sampling.specs.Samples.{activeAt, bookingOn, clockEnd, sampleOf}
-use Rattle.recorder.specs.Calls.{sampleReply, replyTo}
-use Rattle.recorder.specs.History.{Call, sample, reset, afterAll, freshStart}
-use Rattle.recorder.specs.Laws.{Good}
+use Rattle.counting.specs.Filter.{inputAt}
+use Rattle.counting.specs.Bills.{registerAt, namedPart, sumOf}
+use Rattle.sampling.specs.Periods.{multiple}
+use Rattle.sampling.specs.Samples.{activeAt}
 use Rattle.sampling.specs.declared.State.{State}
-use Rattle.recorder.proofs.Sound.{config-stays}
-use Rattle.demands.specs.Account.{Time, tick, Event, took, takesSample, timeOf, eventsOf, closedOf, runOf, whole, always, impulsesOf, feeding}
-use Rattle.demands.specs.Demand3.{InUse}
-use Rattle.demands.specs.Example.{fullMaker, pulses, Filled}
-use Rattle.demands.proofs.Sums.{added, added-cong, added-zero}
-use Rattle.demands.proofs.Keeps.{runAt, remAt, amountAt, closedAt, bringsAt, broughtAt, getsAt, Booked, SampleStep, not-full, is-full, fresh}
-use Rattle.demands.proofs.Tracks.{reached, sample-at, reset-at, clock-is, sum-added}
-use Rattle.demands.proofs.Demand3.{always-books}
+use Rattle.recorder.specs.History.{Call, sample, reset}
+use Rattle.recorder.specs.Laws.{Good}
+use Rattle.recorder.specs.declared.Recorder.{Recorder}
+use Rattle.demands.specs.Account.{Entry, took, ended, cleared, Time, Account, Ended, runOf, whole, inPeriod, unitsIn, periodsOf, always, impulsesOf, inUse, booksAt, feeding, amountOf, nextSample, dueTo, overfull, sampleNumber, stepped, counted, withCall, accountOf, journalOf}
+use Rattle.demands.specs.Starts.{Accepted}
+use Rattle.demands.specs.State.{valueOf, lastPeriod, stateOf}
+use Rattle.demands.specs.Demand2.{reached}
+use Rattle.demands.specs.Demand3.{closedOf, InUse}
+use Rattle.demands.specs.Example.{fullMaker, pulses, nearlyFull, Filled}
+use Rattle.demands.proofs.Sums.{added, sum-added, added-cong, added-zero}
+use Rattle.demands.proofs.Agrees.{answers-of-history}
+use Rattle.demands.proofs.Levels.{state-of-history}
+use Rattle.demands.proofs.Demand3.{open-is, noted-is}
 
 -- the input of the example
 abbrev big : Input
@@ -43,14 +50,20 @@ record Big (c : Config) : Type 0 where
   inputs : (i : ℕ) → i < 16 → inputAt (c .inputs) i ≡ big
   names : feeding c 0 ≡ 65_535
   plain : registerAt (c .registers) 0 .rule ≡ 255
-  used : InUse c 0
-  alone : (j : ℕ) → InUse c j → j ≡ 0
+  used : inUse c 0 ≡ true
+  alone : (j : ℕ) → j < 16 → inUse c j ≡ true → j ≡ 0
+  minute : c .period ≡ 1
 
--- n impulses are booked, and the lines are closed (on) or open
-record At (on : Bool) (n : ℕ) (s : State) : Type 0 where
-  runs : (i : ℕ) → i < 16 → runAt s i ≡ bit on
-  rems : (i : ℕ) → i < 16 → remAt s i ≡ 0
-  amount : amountAt s 0 ≡ n * 160_000
+-- the account after n impulses, m of them since the last reset, with the lines closed (on) or open
+record At (c : Config) (on : Bool) (n m : ℕ) (a : Account) : Type 0 where
+  runs : (i : ℕ) → i < 16 → runOf c i (a .journal) ≡ bit on
+  counts : (i : ℕ) → i < 16 → impulsesOf always i (whole c (a .journal)) ≡ n
+  amount : amountOf c 0 (a .journal) ≡ m * 160_000
+  second : a .time .second ≡ n / 50
+  samples : a .time .samples ≡ n % 50 * 2 + bit on
+  first : a .time .first ≡ n / 3000 * 60
+  units : (i : ℕ) → i < 16 → unitsIn i (inPeriod c (a .journal)) ≡ n % 3000 * 10_000
+  period : 3000 ≤ n → (rest : List Ended) × (periodsOf c (a .journal) ≡ record { state = 2; stamp = n / 3000 * 60; units = table 16 (λ i. 30_000_000) } ∷ rest)
 
 -- all 16 bits of 65,535 are on
 all-bits : 65_535 ≡ maskOf 16 always
@@ -65,38 +78,7 @@ sixteen : added (bitAt 65_535) (λ i. 10_000) 16 ≡ 160_000
 unfolding total bitAt
 sixteen = refl
 
--- an active line brings no impulse; an open one after a run of 1 does
-active-none : (c : Config) (bits : ℕ) (s : State) (i : ℕ) → activeAt (c .inputs) bits i ≡ true → bringsAt c bits s i ≡ false
-unfolding accepted
-active-none c bits s i e = rw e
-
-open-brings : (c : Config) (bits : ℕ) (s : State) (i : ℕ) → inputAt (c .inputs) i ≡ big → activeAt (c .inputs) bits i ≡ false → runAt s i ≡ 1
-    → bringsAt c bits s i ≡ true
-unfolding accepted
-open-brings c bits s i x e r = rw (e, r, x)
-
--- a time of the clock before its end
-not-at-end : (s : State) → s .clock < 4_294_967_295 → clockEnd s ≡ false
-not-at-end s l = rw (ne-eqb (s .clock) 4_294_967_295 (omega arith))
-
--- the number of a sample's reply
-number-taken : (c : Config) (s : State) (bits : ℕ) → clockEnd s ≡ false → bookingOn c s bits .full ≡ false → eqb (replyTo s (sampleOf c s bits) .number) 0 ≡ true
-unfolding sampleOf
-number-taken c s bits e f = rw (e, f)
-
-number-full : (c : Config) (s : State) (bits : ℕ) → clockEnd s ≡ false → bookingOn c s bits .full ≡ true → replyTo s (sampleOf c s bits) .number ≡ 6
-unfolding sampleOf
-number-full c s bits e f = rw (e, f)
-
--- the clock is at most one second on after a sample
-one-later : (t : Bool) (x : Time) → (if t then tick x else x) .second ≤ x .second + 1
-one-later true x = if-cases (λ (y : Time). y .second ≤ x .second + 1) (eqb (x .samples) 99) (λ e. omega arith) (λ e. omega arith)
-one-later false x = omega arith
-
 module _ (c : Config) (h : Big c) where
-  abbrev line-on : ℕ → ℕ → Bool
-  line-on bits i = activeAt (c .inputs) bits i
-
   closed-on : (i : ℕ) → i < 16 → activeAt (c .inputs) 65_535 i ≡ true
   unfolding activeAt
   closed-on i l = rw (h .inputs i l, bits-all i l)
@@ -105,196 +87,212 @@ module _ (c : Config) (h : Big c) where
   unfolding activeAt
   open-off i l = rw (h .inputs i l, bit-zero i)
 
-  -- what register 0 gets
-  module _ (bits : ℕ) (s : State) where
-    gets-is : getsAt c bits s 0 ≡ added (bitAt 65_535) (broughtAt c bits s) 16
-    gets-is =
-        rw (always-books c 0 (h .plain) (s .clock)) (ap (λ (mask : ℕ). sumOf mask (broughtAt c bits s)) (h .names) ∙ sum-added 65_535 (broughtAt c bits s))
+  always-on : (t : ℕ) → booksAt c 0 t ≡ true
+  unfolding booksAt
+  always-on t = rw (h .plain)
 
-  module _ (s s′ : State) (n : ℕ) where
-    -- nothing, where all lines close
-    up-none : (i : ℕ) → i < 16 → bringsAt c 65_535 s i ≡ false
-    up-none i l = active-none c 65_535 s i (closed-on i l)
+  -- what register 0 gets of a sample that brings u units of each input
+  gets : (a : Account) (bits u : ℕ) → ((i : ℕ) → i < 16 → nextSample c a bits .units i ≡ u) → dueTo c 0 (nextSample c a bits) ≡ added (bitAt 65_535) (λ i. u) 16
+  gets a bits u each =
+      rw (always-on (a .time .second))
+      (ap (λ (mask : ℕ). sumOf mask (nextSample c a bits .units)) (h .names) ∙ (sum-added 65_535 _ ∙ added-cong (bitAt 65_535) _ _ 16 (λ i l e. each i l)))
 
-    up-gets : getsAt c 65_535 s 0 ≡ 0
-    up-gets = gets-is 65_535 s ∙ added-zero (bitAt 65_535) _ 16 (λ i l e. rw (up-none i l))
+  -- a sample that leaves register 0 within its limit is accepted, one that does not is refused with 6
+  module _ (a : Account) (bits : ℕ) (early : a .time .second < 4_294_967_295) where
+    not-end : (eqb (a .time .second) 4_294_967_295 && eqb (a .time .samples) 99) ≡ false
+    not-end = rw (ne-eqb (a .time .second) 4_294_967_295 (λ e. omega (arith, e)))
 
-    up : At false n s → Booked c 65_535 s s′ → At true n s′
-    up a b =
-        record {
-          runs = λ i l. b .runs i l ∙ rw (closed-on i l, a .runs i l);
-          rems = λ i l. b .remainders i l ∙ rw (up-none i l) (a .rems i l);
-          amount = omega (arith, b .amounts 0 (h .used), up-gets, a .amount);
-        }
+    accepts : amountOf c 0 (a .journal) + dueTo c 0 (nextSample c a bits) ≤ 999_999_999 → sampleNumber c a bits ≡ 0
+    unfolding sampleNumber overfull
+    accepts within =
+        let none : any 16 (overfull c (a .journal) (nextSample c a bits)) ≡ false =
+        any-none 16 _
+        (λ j l.
+        by-test (inUse c j)
+        (λ u. rw (u, h .alone j l u, le-ltb 999_999_999 _ within) (and-false (ltb 0 (dueTo c 0 (nextSample c a bits)))))
+        (λ f. rw f)) in
+        rw (not-end, none)
 
-    -- and 160,000 units, where they open after one sample
-    down-all : At true n s → (i : ℕ) → i < 16 → bringsAt c 0 s i ≡ true
-    down-all a i l = open-brings c 0 s i (h .inputs i l) (open-off i l) (a .runs i l)
+    refuses : 0 < dueTo c 0 (nextSample c a bits) → 999_999_999 < amountOf c 0 (a .journal) + dueTo c 0 (nextSample c a bits) → sampleNumber c a bits ≡ 6
+    unfolding sampleNumber overfull
+    refuses some past =
+        let full : any 16 (overfull c (a .journal) (nextSample c a bits)) ≡ true = any-at 16 _ 0 (omega arith) (rw (h .used, lt-ltb 0 _ some, lt-ltb 999_999_999 _ past)) in
+        rw (not-end, full)
 
-    down-unit : At true n s → (i : ℕ) → i < 16 → broughtAt c 0 s i ≡ 10_000
-    unfolding unitsOf
-    down-unit a i l = rw (down-all a i l, h .inputs i l, a .rems i l)
+  -- All lines close
 
-    down-gets : At true n s → getsAt c 0 s 0 ≡ 160_000
-    down-gets a = gets-is 0 s ∙ (added-cong (bitAt 65_535) _ (λ i. 10_000) 16 (λ i l e. down-unit a i l) ∙ sixteen)
+  up-units : (a : Account) (i : ℕ) → i < 16 → nextSample c a 65_535 .units i ≡ 0
+  up-units a i l = rw (closed-on i l, h .inputs i l, div-one, div-one) (omega arith)
 
-    down-rem : At true n s → (i : ℕ) → i < 16 → (if bringsAt c 0 s i then remainderOf (inputAt (c .inputs) i) (remAt s i) else remAt s i) ≡ 0
-    unfolding remainderOf
-    down-rem a i l = rw (down-all a i l, h .inputs i l, a .rems i l)
+  up-gets : (a : Account) → dueTo c 0 (nextSample c a 65_535) ≡ 0
+  up-gets a = gets a 65_535 0 (up-units a) ∙ added-zero (bitAt 65_535) _ 16 (λ i l e. refl)
 
-    down : At true n s → Booked c 0 s s′ → At false (suc n) s′
-    down a b =
-        record {
-          runs = λ i l. b .runs i l ∙ rw (open-off i l);
-          rems = λ i l. b .remainders i l ∙ down-rem a i l;
-          amount = omega (arith, b .amounts 0 (h .used), down-gets a, a .amount);
-        }
+  up : (n m : ℕ) (a : Account) → sampleNumber c a 65_535 ≡ 0 → At c false n m a → At c true n m (withCall c a (sample 65_535))
+  unfolding withCall counted amountOf
+  up n m a taken at =
+      let even : eqb (a .time .samples) 99 ≡ false = ne-eqb (a .time .samples) 99 (λ e. omega (arith, at .samples, e)) in
+      rw (taken, even)
+      (record {
+        runs = λ i l. rw (closed-on i l, at .runs i l);
+        counts = λ i l. rw (closed-on i l, at .counts i l) (omega arith);
+        amount = omega (arith, at .amount, up-gets a);
+        second = at .second;
+        samples = omega (arith, at .samples);
+        first = at .first;
+        units = λ i l. omega (arith, at .units i l, up-units a i l);
+        period = at .period;
+      })
 
-  -- a sample that leaves register 0 within its limit is accepted
-  takes : (calls : List Call) (bits : ℕ) → reached c 0 calls .state .clock < 4_294_967_295
-      → amountAt (reached c 0 calls .state) 0 + getsAt c bits (reached c 0 calls .state) 0 ≤ 999_999_999 → takesSample c 0 calls bits ≡ true
-  takes calls bits l within =
-      let s = reached c 0 calls .state in
-      subst (λ (k : Config). eqb (replyTo s (sampleOf k s bits) .number) 0 ≡ true) (sym (config-stays c 0 calls))
-      (number-taken c s bits (not-at-end s l) (not-full c s bits (λ j u. rw (h .alone j u) within)))
+  -- All lines open after one sample
 
-  -- and then booked
-  books : (calls : List Call) (bits : ℕ) → takesSample c 0 calls bits ≡ true → Booked c bits (reached c 0 calls .state) (reached c 0 (sample bits ∷ calls) .state)
-  books calls bits t =
-      subst (λ (on : Bool). SampleStep on c bits (reached c 0 calls .state) (reached c 0 (sample bits ∷ calls) .state)) t (sample-at c 0 calls bits)
+  down-units : (n m : ℕ) (a : Account) → At c true n m a → (i : ℕ) → i < 16 → nextSample c a 0 .units i ≡ 10_000
+  down-units n m a at i l = rw (open-off i l, at .runs i l, h .inputs i l, at .counts i l, div-one, div-one) (omega arith)
 
-  -- the clock is far from its end
-  late : (n : ℕ) → timeOf c 0 (pulses n) .second ≤ 2 * n
-  unfolding pulses
-  late zero = omega arith
-  late (suc n) =
-      let a = one-later (takesSample c 0 (pulses n) 65_535) (timeOf c 0 (pulses n)) in
-      let b = one-later (takesSample c 0 (sample 65_535 ∷ pulses n) 0) (timeOf c 0 (sample 65_535 ∷ pulses n)) in
-      omega (arith, late n)
+  down-gets : (n m : ℕ) (a : Account) → At c true n m a → dueTo c 0 (nextSample c a 0) ≡ 160_000
+  down-gets n m a at = gets a 0 10_000 (down-units n m a at) ∙ sixteen
 
-  early : (n : ℕ) → n ≤ 6_249 → reached c 0 (pulses n) .state .clock < 4_294_967_295
-  early n l = let e : reached c 0 (pulses n) .state .clock ≡ timeOf c 0 (pulses n) .second = ap (λ (t : Time). t .second) (clock-is c 0 (pulses n)) in omega (arith, late n)
+  minutes : (t : ℕ) → multiple (c .period) t ≡ eqb (t % 60) 0
+  unfolding multiple
+  minutes t = ap (λ (p : ℕ). multiple p t) (h .minute)
 
-  early-on : (n : ℕ) → n ≤ 6_249 → reached c 0 (sample 65_535 ∷ pulses n) .state .clock < 4_294_967_295
-  early-on n l =
-      let calls = sample 65_535 ∷ pulses n in
-      let e : reached c 0 calls .state .clock ≡ timeOf c 0 calls .second = ap (λ (t : Time). t .second) (clock-is c 0 calls) in
-      omega (arith, late n, one-later (takesSample c 0 (pulses n) 65_535) (timeOf c 0 (pulses n)))
+  -- the second begins anew with the fiftieth impulse, and the period with the 3,000th
+  down : (n m : ℕ) (a : Account) → sampleNumber c a 0 ≡ 0 → At c true n m a → At c false (suc n) (suc m) (withCall c a (sample 0))
+  unfolding withCall counted stepped amountOf
+  down n m a taken at =
+      let runs : (i : ℕ) → i < 16 → runOf c i (took 0 (a .time .second) ∷ a .journal) ≡ 0 = λ i l. rw (open-off i l) in
+      let counts : (i : ℕ) → i < 16 → impulsesOf always i (whole c (took 0 (a .time .second) ∷ a .journal)) ≡ suc n = λ i l. rw (open-off i l, at .runs i l, h .inputs i l, at .counts i l) (omega arith) in
+      let amount : amountOf c 0 (took 0 (a .time .second) ∷ a .journal) ≡ suc m * 160_000 = omega (arith, at .amount, down-gets n m a at) in
+      let units : (i : ℕ) → i < 16 → unitsIn i (inPeriod c (took 0 (a .time .second) ∷ a .journal)) ≡ n % 3000 * 10_000 + 10_000 = λ i l. omega (arith, at .units i l, down-units n m a at i l) in
+      by-test (eqb (a .time .samples) 99)
+      (λ t.
+      let last : n % 50 ≡ 49 = omega (arith, at .samples, eqb-true (a .time .samples) 99 t) in
+      by-test (eqb ((a .time .second + 1) % 60) 0)
+      (λ closes.
+      let full : n % 3000 ≡ 2999 = omega (arith, at .second, eqb-true ((a .time .second + 1) % 60) 0 closes) in
+      let began : eqb (a .time .first % 60) 0 ≡ true = rw (at .first) (eq-eqb (n / 3000 * 60 % 60) 0 (mul-mod-left (n / 3000) 60)) in
+      rw (taken, t, minutes (a .time .second + 1), closes, minutes (a .time .first), began)
+      (record {
+        runs = runs;
+        counts = counts;
+        amount = amount;
+        second = omega (arith, at .second);
+        samples = omega arith;
+        first = omega (arith, at .second);
+        units = λ i l. omega arith;
+        period = λ many. (
+          periodsOf c (a .journal),
+          ap₂ (λ (stamp : ℕ) (level : List ℕ). record { state = 2; stamp = stamp; units = level } ∷ periodsOf c (a .journal)) (omega (arith, at .second))
+              (table-cong 16 _ _ (λ i l. omega (arith, units i l))),
+        );
+      }))
+      (λ stays.
+      let on-and-on : (a .time .second + 1) % 60 ≡ 0 → ⊥ = eqb-false ((a .time .second + 1) % 60) 0 stays in
+      let before : n % 3000 ≡ 2999 → ⊥ = λ e.
+      on-and-on (let ends : a .time .second + 1 ≡ (n / 3000 + 1) * 60 = omega (arith, at .second) in rw ends (mul-mod-left (n / 3000 + 1) 60)) in
+      rw (taken, t, minutes (a .time .second + 1), stays)
+      (record {
+        runs = runs;
+        counts = counts;
+        amount = amount;
+        second = omega (arith, at .second);
+        samples = omega arith;
+        first = omega (arith, at .first);
+        units = λ i l. omega (arith, units i l);
+        period = λ many.
+            let (rest, e) = at .period (omega arith) in
+            let same : n / 3000 ≡ suc n / 3000 = omega arith in
+            (rest, e ∙ ap (λ (k : ℕ). record { state = 2; stamp = k * 60; units = table 16 (λ i. 30_000_000) } ∷ rest) same);
+      })))
+      (λ f.
+      let more : n % 50 < 49 = omega (arith, at .samples, eqb-false (a .time .samples) 99 f) in
+      rw (taken, f)
+      (record {
+        runs = runs;
+        counts = counts;
+        amount = amount;
+        second = omega (arith, at .second);
+        samples = omega (arith, at .samples);
+        first = omega (arith, at .first);
+        units = λ i l. omega (arith, units i l);
+        period = λ many.
+            let (rest, e) = at .period (omega arith) in
+            let same : n / 3000 ≡ suc n / 3000 = omega arith in
+            (rest, e ∙ ap (λ (k : ℕ). record { state = 2; stamp = k * 60; units = table 16 (λ i. 30_000_000) } ∷ rest) same);
+      }))
+
+  -- The history
 
   -- the samples of impulse n + 1 are accepted
-  takes-up : (n : ℕ) → n ≤ 6_249 → At false n (reached c 0 (pulses n) .state) → takesSample c 0 (pulses n) 65_535 ≡ true
-  takes-up n l a =
-      let s = reached c 0 (pulses n) .state in
-      takes (pulses n) 65_535 (early n l) (omega (arith, a .amount, up-gets s s n))
+  takes-up : (n m : ℕ) (a : Account) → n ≤ 6_249 → m ≤ 6_249 → At c false n m a → sampleNumber c a 65_535 ≡ 0
+  takes-up n m a l k at = accepts a 65_535 (omega (arith, at .second)) (omega (arith, at .amount, up-gets a))
 
-  takes-down : (n : ℕ) → n < 6_249 → At true n (reached c 0 (sample 65_535 ∷ pulses n) .state) → takesSample c 0 (sample 65_535 ∷ pulses n) 0 ≡ true
-  takes-down n l a =
-      let s = reached c 0 (sample 65_535 ∷ pulses n) .state in
-      takes (sample 65_535 ∷ pulses n) 0 (early-on n (omega arith)) (omega (arith, a .amount, down-gets s s n a))
+  takes-down : (n m : ℕ) (a : Account) → n ≤ 6_249 → m < 6_249 → At c true n m a → sampleNumber c a 0 ≡ 0
+  takes-down n m a l k at = accepts a 0 (omega (arith, at .second)) (omega (arith, at .amount, down-gets n m a at))
 
-  -- so n impulses are booked
-  at-closed : (n : ℕ) → n ≤ 6_249 → At false n (reached c 0 (pulses n) .state) → At true n (reached c 0 (sample 65_535 ∷ pulses n) .state)
-  at-closed n l a = up _ _ n a (books (pulses n) 65_535 (takes-up n l a))
-
-  at-pulses : (n : ℕ) → n ≤ 6_249 → At false n (reached c 0 (pulses n) .state)
-  unfolding pulses afterAll
-  at-pulses zero l = record { runs = fresh 0 .runs; rems = fresh 0 .remainders; amount = fresh 0 .amounts 0 (h .used .0) }
-  at-pulses (suc n) l =
-      let a = at-closed n (omega arith) (at-pulses n (omega arith)) in
-      down _ _ n a (books (sample 65_535 ∷ pulses n) 0 (takes-down n l a))
-
-  -- and the account has them
-  took-up : (n : ℕ) → n ≤ 6_249 → takesSample c 0 (pulses n) 65_535 ≡ true
-  took-up n l = takes-up n l (at-pulses n l)
-
-  took-down : (n : ℕ) → n < 6_249 → takesSample c 0 (sample 65_535 ∷ pulses n) 0 ≡ true
-  took-down n l = takes-down n l (at-closed n (omega arith) (at-pulses n (omega arith)))
-
-  module _ (i : ℕ) (below : i < 16) where
-    run-none : (n : ℕ) → n ≤ 6_249 → runOf c i (eventsOf c 0 (pulses n)) ≡ 0
-    unfolding pulses
-    run-none zero l = refl
-    run-none (suc n) l = rw (took-down n l, open-off i below)
-
-    -- the closing sample brings none, and the opening one does
-    up-count : (n t : ℕ) (l : List Event) → impulsesOf always i (whole c l) ≡ n → impulsesOf always i (whole c (took 65_535 t ∷ l)) ≡ n
-    up-count n t l e = rw (closed-on i below) (omega arith)
-
-    down-count : (n t u : ℕ) (l : List Event) → runOf c i l ≡ 0 → impulsesOf always i (whole c l) ≡ n
-        → impulsesOf always i (whole c (took 0 u ∷ took 65_535 t ∷ l)) ≡ suc n
-    down-count n t u l r e = rw (closed-on i below, open-off i below, r, h .inputs i below) (omega arith)
-
-    count : (n : ℕ) → n ≤ 6_249 → impulsesOf always i (whole c (eventsOf c 0 (pulses n))) ≡ n
-    unfolding pulses
-    count zero l = refl
-    count (suc n) l =
-        rw (took-down n l, took-up n (omega arith))
-        (down-count n (timeOf c 0 (pulses n) .second) (timeOf c 0 (sample 65_535 ∷ pulses n) .second) (eventsOf c 0 (pulses n))
-        (run-none n (omega arith)) (count n (omega arith)))
-
-    -- no impulse by a closing sample and a refused one
-    count-full : takesSample c 0 (sample 65_535 ∷ pulses 6_249) 0 ≡ false → impulsesOf always i (whole c (eventsOf c 0 (sample 0 ∷ sample 65_535 ∷ pulses 6_249))) ≡ 6_249
-    count-full e =
-        rw (e, took-up 6_249 (omega arith)) (up-count 6_249 (timeOf c 0 (pulses 6_249) .second) (eventsOf c 0 (pulses 6_249)) (count 6_249 (omega arith)))
-
-  -- nothing is closed before the first reset
-  none-closed : (n : ℕ) → closedOf c 0 0 (pulses n) ≡ 0
-  unfolding pulses
-  none-closed zero = refl
-  none-closed (suc n) = none-closed n
-
-  -- the next sample is refused
-  at-full : At true 6_249 (reached c 0 (sample 65_535 ∷ pulses 6_249) .state)
-  at-full = at-closed 6_249 (omega arith) (at-pulses 6_249 (omega arith))
-
-  full-number : sampleReply (afterAll (freshStart c 0) (sample 65_535 ∷ pulses 6_249)) 0 .number ≡ 6
-  full-number =
-      let calls = sample 65_535 ∷ pulses 6_249 in
-      let s = reached c 0 calls .state in
-      subst (λ (k : Config). replyTo s (sampleOf k s 0) .number ≡ 6) (sym (config-stays c 0 calls))
-      (number-full c s 0 (not-at-end s (early-on 6_249 (omega arith)))
-      (is-full c s 0 0 (h .used) (omega (arith, at-full .amount)) (omega (arith, at-full .amount, down-gets s s 6_249 at-full))))
-
-  not-taken : takesSample c 0 (sample 65_535 ∷ pulses 6_249) 0 ≡ false
-  not-taken = rw full-number
-
-  -- and changes nothing
-  unchanged : reached c 0 (sample 0 ∷ sample 65_535 ∷ pulses 6_249) .state ≡ reached c 0 (sample 65_535 ∷ pulses 6_249) .state
-  unchanged =
-      let calls = sample 65_535 ∷ pulses 6_249 in
-      subst (λ (on : Bool). SampleStep on c 0 (reached c 0 calls .state) (reached c 0 (sample 0 ∷ calls) .state)) not-taken (sample-at c 0 calls 0)
-
-  -- after a reset the lines are still closed, and nothing is open
-  at-reset : At true 0 (reached c 0 (reset ∷ sample 0 ∷ sample 65_535 ∷ pulses 6_249) .state)
-  at-reset =
-      let before : At true 6_249 (reached c 0 (sample 0 ∷ sample 65_535 ∷ pulses 6_249) .state) = rw unchanged at-full in
-      let r = reset-at c 0 (sample 0 ∷ sample 65_535 ∷ pulses 6_249) in
+  fresh : At c false 0 0 (accountOf c 0 [])
+  unfolding accountOf amountOf
+  fresh =
       record {
-        runs = λ i l. r .lines .runs i l ∙ before .runs i l;
-        rems = λ i l. r .lines .remainders i l ∙ before .rems i l;
-        amount = r .zeros 0 (h .used);
+        runs = λ i l. refl;
+        counts = λ i l. refl;
+        amount = omega arith;
+        second = omega arith;
+        samples = omega arith;
+        first = omega arith;
+        units = λ i l. omega arith;
+        period = λ many. absurd (omega arith);
       }
 
-  noted : closedAt (reached c 0 (reset ∷ sample 0 ∷ sample 65_535 ∷ pulses 6_249) .state) 0 ≡ 999_840_000
-  noted = reset-at c 0 (sample 0 ∷ sample 65_535 ∷ pulses 6_249) .notes 0 (h .used) ∙ rw unchanged (at-full .amount)
+  at-pulses : (n : ℕ) → n ≤ 6_249 → At c false n n (accountOf c 0 (pulses n))
+  unfolding pulses accountOf
+  at-pulses zero l = fresh
+  at-pulses (suc n) l =
+      let old = at-pulses n (omega arith) in
+      let middle = up n n _ (takes-up n n _ (omega arith) (omega arith) old) old in
+      down n n _ (takes-down n n _ (omega arith) l middle) middle
 
-  early-anew : reached c 0 (reset ∷ sample 0 ∷ sample 65_535 ∷ pulses 6_249) .state .clock < 4_294_967_295
-  early-anew =
-      let calls = sample 0 ∷ sample 65_535 ∷ pulses 6_249 in
-      let e : reached c 0 (reset ∷ calls) .state .clock ≡ timeOf c 0 calls .second = ap (λ (t : Time). t .second) (clock-is c 0 (reset ∷ calls)) in
-      omega (
-        arith,
-        late 6_249,
-        one-later (takesSample c 0 (pulses 6_249) 65_535) (timeOf c 0 (pulses 6_249)),
-        one-later (takesSample c 0 (sample 65_535 ∷ pulses 6_249) 0) (timeOf c 0 (sample 65_535 ∷ pulses 6_249)),
-      )
+  at-full : At c true 6_249 6_249 (accountOf c 0 (sample 65_535 ∷ pulses 6_249))
+  unfolding accountOf
+  at-full = let old = at-pulses 6_249 (omega arith) in up 6_249 6_249 _ (takes-up 6_249 6_249 _ (omega arith) (omega arith) old) old
 
-  opens-anew : amountAt (reached c 0 (sample 0 ∷ reset ∷ sample 0 ∷ sample 65_535 ∷ pulses 6_249) .state) 0 ≡ 160_000
-  opens-anew =
-      let calls = reset ∷ sample 0 ∷ sample 65_535 ∷ pulses 6_249 in
-      let s = reached c 0 calls .state in
-      let t = takes calls 0 early-anew (omega (arith, at-reset .amount, down-gets s s 0 at-reset)) in
-      down s _ 0 at-reset (books calls 0 t) .amount
+  -- the next sample is refused, and enters nothing
+  full-number : sampleNumber c (accountOf c 0 (sample 65_535 ∷ pulses 6_249)) 0 ≡ 6
+  full-number =
+      let gets = down-gets 6_249 6_249 _ at-full in
+      refuses _ 0 (omega (arith, at-full .second)) (omega (arith, gets)) (omega (arith, gets, at-full .amount))
+
+  unchanged : accountOf c 0 (sample 0 ∷ sample 65_535 ∷ pulses 6_249) ≡ accountOf c 0 (sample 65_535 ∷ pulses 6_249)
+  unfolding accountOf withCall
+  unchanged = rw full-number
+
+  -- after a reset the lines are still closed, and nothing is open
+  cleared-at : (n m : ℕ) (a : Account) → At c true n m a → At c true n 0 (withCall c a reset)
+  unfolding withCall amountOf
+  cleared-at n m a at =
+      record {
+        runs = at .runs;
+        counts = at .counts;
+        amount = omega arith;
+        second = at .second;
+        samples = at .samples;
+        first = at .first;
+        units = at .units;
+        period = at .period;
+      }
+
+  at-reset : At c true 6_249 0 (accountOf c 0 (reset ∷ sample 0 ∷ sample 65_535 ∷ pulses 6_249))
+  unfolding accountOf
+  at-reset = rw unchanged (cleared-at 6_249 6_249 _ at-full)
+
+  at-anew : At c false 6_250 1 (accountOf c 0 (sample 0 ∷ reset ∷ sample 0 ∷ sample 65_535 ∷ pulses 6_249))
+  unfolding accountOf
+  at-anew = down 6_249 0 _ (takes-down 6_249 0 _ (omega arith) (omega arith) at-reset) at-reset
+
+-- nothing is closed before the first reset
+none-closed : (c : Config) (n : ℕ) → closedOf c 0 0 (pulses n) ≡ 0
+unfolding pulses
+none-closed c zero = refl
+none-closed c (suc n) = none-closed c n
 
 -- The example's configuration
 
@@ -305,9 +303,9 @@ full-good = good-exactly fullMaker .0 refl
 full-inputs : (i : ℕ) → i < 16 → inputAt (fullMaker .inputs) i ≡ big
 full-inputs i l = getD-replicate 16 i _ _ l
 
-full-alone : (j : ℕ) → InUse fullMaker j → j ≡ 0
-full-alone zero u = refl
-full-alone (suc j) u = absurd (unused 15 j (u .0) (u .1))
+full-alone : (j : ℕ) → j < 16 → inUse fullMaker j ≡ true → j ≡ 0
+full-alone zero l u = refl
+full-alone (suc j) l u = absurd (unused 15 j l (ltb-true _ 8 u))
   where
     unused : (n j : ℕ) → suc j < suc n → registerAt (replicate n (record { sum = 255; rule = 255 })) j .sum < 8 → ⊥
     unused zero j l u = omega arith
@@ -316,15 +314,38 @@ full-alone (suc j) u = absurd (unused 15 j (u .0) (u .1))
 
 full-big : Big fullMaker
 unfolding feeding
-full-big = record { inputs = full-inputs; names = refl; plain = refl; used = (omega arith, omega arith); alone = full-alone }
+full-big = record { inputs = full-inputs; names = refl; plain = refl; used = refl; alone = full-alone; minute = refl }
+
+full-accepted : Accepted fullMaker
+full-accepted = record { good = full-good; bytes = λ i l. rw (full-inputs i l) (omega arith) }
+
+full-used : InUse fullMaker 0
+full-used = (omega arith, omega arith)
+
+-- the values of a period with 30,000,000 units of each input
+minute-values : lastPeriod fullMaker (record { state = 2; stamp = 120; units = table 16 (λ i. 30_000_000) } ∷ [])
+    ≡ record { state = 2; stamp = 120; values = pos 30_000_000 ∷ pos 480_000_000 ∷ negsuc 479_999_999 ∷ replicate 13 (pos 0) }
+unfolding table valueOf sumOf namedPart total totalℤ bitAt
+minute-values = refl
+
+last-minute : reached fullMaker 0 nearlyFull .state .closed
+    ≡ record { state = 2; stamp = 120; values = pos 30_000_000 ∷ pos 480_000_000 ∷ negsuc 479_999_999 ∷ replicate 13 (pos 0) }
+unfolding stateOf
+last-minute =
+    ap (λ (r : Recorder). r .state .closed) (state-of-history fullMaker full-accepted 0 nearlyFull)
+    ∙ (ap (lastPeriod fullMaker) (at-full fullMaker full-big .period (omega arith) .1) ∙ minute-values)
 
 pub filled : Filled
 filled =
+    let c = fullMaker in
+    let h = full-big in
+    let calls = sample 0 ∷ nearlyFull in
     record {
-      accepted = record { good = full-good; bytes = λ i l. rw (full-inputs i l) (omega arith) };
-      opened = at-full fullMaker full-big .amount;
-      refused = full-number fullMaker full-big;
-      impulses = λ i l. count-full fullMaker full-big i l (not-taken fullMaker full-big);
-      closed = omega (arith, none-closed fullMaker full-big 6_249, noted fullMaker full-big);
-      anew = opens-anew fullMaker full-big;
+      accepted = full-accepted;
+      opened = open-is c 0 nearlyFull 0 full-used ∙ at-full c h .amount;
+      refused = answers-of-history c 0 nearlyFull (sample 0) ∙ full-number c h;
+      impulses = λ i l. ap (λ (a : Account). impulsesOf always i (whole c (a .journal))) (unchanged c h) ∙ at-full c h .counts i l;
+      closed = omega (arith, none-closed c 6_249, noted-is c 0 calls 0 full-used, ap (λ (a : Account). amountOf c 0 (a .journal)) (unchanged c h), at-full c h .amount);
+      anew = open-is c 0 (sample 0 ∷ reset ∷ calls) 0 full-used ∙ at-anew c h .amount;
+      whole-period = last-minute;
     }

@@ -1,210 +1,281 @@
--- Level 0 of a fitted input is what the history says: by induction over the calls.
-use mathlib.Core.Path.{_≡_, refl, sym, ap, subst, _∙_}
+-- The units of the running period and the last closed period are what the history says, under a configuration that the image check accepts; and with them the whole state.
+use mathlib.Core.Path.{_≡_, refl, sym, ap, ap₂, subst, _∙_}
 use mathlib.Core.Bool.{Bool, true, false, _&&_, _||_}
 use mathlib.Core.List.{List, [], _∷_}
-use Prim.Native.Nat.{ℕ, _+_, _*_, _/_, _<_}
-use native.Mathlib.Nat.{add-zero, zero-add}
+use mathlib.Core.Logic.{⊎-elim}
+use Prim.Native.Nat.{ℕ, _+_, _*_, _%_, _<_}
+use native.Mathlib.Nat.{add-zero, mul-zero}
 use native.Mathlib.Omega.{arith}
-use borrow.Author.Tests.{eq-eqb, ne-eqb, leb-true, leb-false}
+use borrow.Author.Tests.{eqb-true, leb-true}
 use lib.Dec.{eqb, ltb, leb}
-use lib.IntN.{ℤ}
-use lib.ListN.{getD, getD-replicate}
-use Rattle.laws.specs.If.{if_then_else_, if-cases}
-use Rattle.laws.specs.Tests.{by-test}
-use Rattle.laws.specs.Answers.{Answer}
-use Rattle.calendar.specs.Moments.{yearDay, momentOf}
-use Rattle.calendar.specs.declared.Moment.{Moment}
+use lib.IntN.{ℤ, pos}
+use lib.ListN.{length, getD, getD-replicate}
+use Rattle.laws.specs.If.{if_then_else_}
+use Rattle.laws.specs.Tests.{by-test, and-left, and-right, or-right}
+use Rattle.laws.specs.Tables.{table, table-cong, table-self}
+use Rattle.settings.specs.Rules.{runsGood, ratioGood, sixZeros, inputGood, fittedIn, slotGood, noSlot}
 use Rattle.settings.specs.Check.{sections}
 use Rattle.settings.specs.declared.Config.{Config}
 use Rattle.settings.specs.declared.Input.{Input}
-use Rattle.counting.specs.Filter.{inputAt, lineAt, nextRun, filtered}
+use Rattle.settings.specs.declared.Slot.{Slot}
+use Rattle.counting.specs.Filter.{inputAt, lineAt, filtered}
 use Rattle.counting.specs.Units.{unitsOf, heldSum, credited, creditIf}
-use Rattle.sampling.specs.Periods.{multiple, cleared, tickOf}
-use Rattle.sampling.specs.Samples.{activeAt, bookingOn, putIn, countedOf, clockEnd, sampleOf}
-use Rattle.recorder.specs.Clock.{setTo, setDated, setOf, resetOf}
+use Rattle.counting.specs.Bills.{billAt, unitAt, sumAt}
+use Rattle.counting.specs.Levels.{level0At, level0, termAt, level2, inputValue, sumValue, functionValue, slotValue, slotValueAt, slotValues}
+use Rattle.sampling.specs.Periods.{multiple, cleared, clearedLines, closedAs, stateOf as stateAs, tickOf}
+use Rattle.sampling.specs.Samples.{activeAt, bookingOn, countedOf, sampleOf}
+use Rattle.recorder.specs.Clock.{setTo, setOf, resetOf}
 use Rattle.recorder.specs.Meters.{readingOf}
 use Rattle.recorder.specs.Calls.{freshState, replyTo}
-use Rattle.recorder.specs.History.{Call, sample, set, reading, reset, afterAll}
+use Rattle.recorder.specs.History.{Call, sample, set as set-call, reading, reset, afterAll}
+use Rattle.recorder.specs.Laws.{Good}
+use Rattle.registers.specs.Fleet.{meterAt}
 use Rattle.counting.specs.declared.Line.{Line}
+use Rattle.counting.specs.declared.Bill.{Bill}
+use Rattle.sampling.specs.declared.Meter.{Meter}
+use Rattle.sampling.specs.declared.Period.{Period}
 use Rattle.sampling.specs.declared.State.{State}
+use Rattle.recorder.specs.declared.Recorder.{Recorder}
+use Rattle.calendar.proofs.Moments.{dated-or-not}
 use Rattle.recorder.proofs.Sound.{config-stays, reached-is-sound}
 use Rattle.recorder.proofs.Bounded.{hold-never-acts}
-use Rattle.demands.specs.Account.{Event, took, cleared as cleared-event, Sample, takesSample, takesSet, timeOf, eventsOf, runOf, endsImpulse, whole, always, impulsesOf}
-use Rattle.demands.specs.Demand2.{closesPeriod, beforePeriod, LevelOfHistory}
-use Rattle.demands.specs.Demand3.{Accepted}
-use Rattle.demands.proofs.Rounding.{paidUnits, rem, units, rounded-down}
-use Rattle.demands.proofs.Keeps.{remAt, closedAt, bringsAt, broughtAt, Still, Booked, Closed, line-after, cleared-line, fresh}
-use Rattle.demands.proofs.Tracks.{reached, clock-is, Runs, by-calls, Fitted, next-held, same-impulse, unit-is, rem-is}
-use Rattle.demands.proofs.Demand3.{good-denominator}
+use Rattle.demands.specs.Account.{Entry, took, ended, Account, always, impulsesOf, unitsIn, whole, inPeriod, periodsOf, lastReading, stepped, counted, withCall, readingNumber, accountOf}
+use Rattle.demands.specs.Starts.{Accepted}
+use Rattle.demands.specs.State.{lineOf, billOf, meterOf, valueOf, lastPeriod, stateOf}
+use Rattle.demands.specs.Demand2.{reached, StateOfHistory}
+use Rattle.demands.proofs.Units.{leftOver}
+use Rattle.demands.proofs.Keeps.{bringsAt, broughtAt, bookedState, line-after, cleared-line}
+use Rattle.demands.proofs.Agrees.{Agrees, LineAgrees, same-units, longer, booked-agrees, hundredth, sample-case, agrees}
 
--- level 0 of input i
-abbrev levelAt : State → ℕ → ℕ
-levelAt s i = lineAt (s .lines) i .units
+-- units of the running period, and the last closed period
+record Closes (c : Config) (s : State) (a : Account) : Type 0 where
+  units : (i : ℕ) → i < 16 → lineAt (s .lines) i .units ≡ unitsIn i (inPeriod c (a .journal))
+  closed : s .closed ≡ lastPeriod c (periodsOf c (a .journal))
 
--- a step after this sample closes the period
-abbrev closesAt : Config → State → Bool
-closesAt c s = leb 99 (s .samples) && multiple (c .period) (s .clock + 1)
+-- the hold of level 0 does not act at the next impulse
+abbrev Free : Config → State → Type 0
+Free c s =
+    (i : ℕ) → i < 16 → let line = lineAt (s .lines) i in
+    let more = unitsOf (inputAt (c .inputs) i) (line .remainder) in heldSum (line .units) more ≡ line .units + more
 
--- a sample adds its units to level 0, and a new period begins with none; a refused one changes nothing
-abbrev LevelStep : Bool → Config → ℕ → ℕ → State → State → Type 0
-LevelStep true c bits i s s′ = levelAt s′ i ≡ (if closesAt c s then 0 else levelAt s i + broughtAt c bits s i)
-LevelStep false c bits i s s′ = s′ ≡ s
+-- Slots
 
-credit-level : (input : Input) (line : Line) (on : Bool) → heldSum (line .units) (unitsOf input (line .remainder)) ≡ line .units + unitsOf input (line .remainder)
-    → creditIf input line on .units ≡ line .units + (if on then unitsOf input (line .remainder) else 0)
+-- a good slot of level 0 is of one of the sixteen inputs, one of level 1 of one of the eight sums, one of level 2 of one of the four functions
+first-part : (a b d f : Bool) → (((a || (false && b)) || (false && d)) || (false && f)) ≡ true → a ≡ true
+first-part true b d f e = refl
+first-part false b d f e = e
+
+second-part : (a b d f : Bool) → (((false && a) || b) || (false && d)) || (false && f) ≡ true → b ≡ true
+second-part a true d f e = refl
+second-part a false d f e = e
+
+third-part : (a b d f : Bool) → ((((false && a) || (false && b)) || d) || (false && f)) ≡ true → d ≡ true
+third-part a b true f e = refl
+third-part a b false f e = e
+
+-- the recorder's value of a good slot is the account's
+slot-same : (c : Config) (units : List ℕ) (slot : Slot) → slotGood (fittedIn (c .inputs)) slot ≡ true → slotValue c units slot ≡ valueOf c units slot
+unfolding slotValue inputValue sumValue functionValue level2 termAt sumAt valueOf fittedIn
+slot-same c units slot good =
+    by-test (eqb (slot .level) 0)
+    (λ t.
+    let below : fittedIn (c .inputs) (slot .index) ≡ true = first-part (fittedIn (c .inputs) (slot .index)) (ltb (slot .index) 8) (ltb (slot .index) 4) (eqb (slot .index) 0) (rw (eqb-true (slot .level) 0 t) at good) in
+    rw (t, and-left (ltb (slot .index) 16) _ below))
+    (λ f.
+    by-test (eqb (slot .level) 1)
+    (λ t.
+    let below : ltb (slot .index) 8 ≡ true = second-part (fittedIn (c .inputs) (slot .index)) (ltb (slot .index) 8) (ltb (slot .index) 4) (eqb (slot .index) 0) (rw (eqb-true (slot .level) 1 t) at good) in
+    rw (f, t, below))
+    (λ g.
+    by-test (eqb (slot .level) 2)
+    (λ t.
+    let below : ltb (slot .index) 4 ≡ true = third-part (fittedIn (c .inputs) (slot .index)) (ltb (slot .index) 8) (ltb (slot .index) 4) (eqb (slot .index) 0) (rw (eqb-true (slot .level) 2 t) at good) in
+    rw (f, g, t, below))
+    (λ h. rw (f, g, h))))
+
+-- so a period closes with the account's values
+closed-same : (c : Config) → Good c → (journal : List Entry) (lines : List Line) → ((i : ℕ) → i < 16 → lineAt lines i .units ≡ unitsIn i (inPeriod c journal)) → (state stamp : ℕ)
+    → closedAs c state stamp lines ≡ lastPeriod c (periodsOf c (ended state stamp ∷ journal))
+unfolding closedAs slotValues slotValueAt level0 level0At sections
+closed-same c good journal lines same state stamp =
+    let units = table 16 (λ i. unitsIn i (inPeriod c journal)) in
+    let level : table 16 (λ i. lineAt lines i .units) ≡ units = table-cong 16 _ _ same in
+    ap (λ (values : List ℤ). record { state = state; stamp = stamp; values = values })
+    (ap (λ (level : List ℕ). table 16 (λ i. slotValue c level (getD (c .slots) i noSlot))) level
+    ∙ table-cong 16 _ _ (λ i l. slot-same c units (getD (c .slots) i noSlot) (good .1 .1 .1 .1 .0 i l)))
+
+-- A sample
+
+credit-level : (x : Input) (line : Line) (on : Bool) → heldSum (line .units) (unitsOf x (line .remainder)) ≡ line .units + unitsOf x (line .remainder)
+    → creditIf x line on .units ≡ line .units + (if on then unitsOf x (line .remainder) else 0)
 unfolding creditIf credited
-credit-level input line true h = h
-credit-level input line false h = sym (add-zero (line .units))
+credit-level x line true h = h
+credit-level x line false h = sym (add-zero (line .units))
 
-counted-level : (c : Config) (s : State) (i : ℕ) → i < 16 → levelAt (countedOf c s) i ≡ (if closesAt c s then 0 else levelAt s i)
-unfolding countedOf tickOf cleared
-counted-level c s i l =
+module _ (c : Config) (s : State) (a : Account) (bits : ℕ) (both : Agrees c s a) (old : Closes c s a) (free : Free c s) where
+  booked-level : (i : ℕ) → i < 16 → lineAt (bookingOn c s bits .lines) i .units ≡ unitsIn i (inPeriod c (longer a bits))
+  unfolding filtered
+  booked-level i l =
+      let x = inputAt (c .inputs) i in
+      let line = lineAt (s .lines) i in
+      ap (λ (y : Line). y .units) (line-after c s bits i l)
+      ∙ (credit-level x (filtered x line (activeAt (c .inputs) bits i)) (bringsAt c s bits i) (free i l)
+      ∙ rw (old .units i l, same-units c (a .journal) bits (a .time .second) i line (both .lines i l)))
+
+  booked-closes : Closes c (bookedState c s bits) (record { time = a .time; journal = longer a bits })
+  booked-closes = record { units = booked-level; closed = old .closed }
+
+-- the start of a period has no units
+cleared-units : (lines : List Line) (i : ℕ) → i < 16 → lineAt (clearedLines lines) i .units ≡ 0
+unfolding cleared
+cleared-units lines i l = ap (λ (y : Line). y .units) (cleared-line lines i l)
+
+tick-closes : (c : Config) (s : State) (a : Account) → Good c → Agrees c s a → Closes c s a → Closes c (tickOf c s) (stepped c (a .time) (a .journal))
+unfolding tickOf stepped
+tick-closes c s a good both old =
+    by-test (multiple (c .period) (a .time .second + 1))
+    (λ t.
+    rw (both .clock, t)
+    (record {
+      units = cleared-units (s .lines);
+      closed = rw (both .first) (closed-same c good (a .journal) (s .lines) (old .units) (stateAs (c .period) (a .time .first)) (a .time .second + 1));
+    }))
+    (λ f. rw (both .clock, f) (record { units = old .units; closed = old .closed }))
+
+counted-closes : (c : Config) (s : State) (a : Account) → Good c → Agrees c s a → Closes c s a → Closes c (countedOf c s) (counted c (a .time) (a .journal))
+unfolding countedOf counted
+counted-closes c s a good both old =
     by-test (leb 99 (s .samples))
-    (λ t. by-test (multiple (c .period) (s .clock + 1)) (λ u. rw (t, u) (ap (λ (x : Line). x .units) (cleared-line (s .lines) i l))) (λ f. rw (t, f)))
+    (λ t. rw (t, sym (hundredth c s a both) ∙ t) (tick-closes c s a good both old))
+    (λ f. rw (f, sym (hundredth c s a both) ∙ f) (record { units = old .units; closed = old .closed }))
+
+sample-closes : (c : Config) (s : State) (a : Account) (bits : ℕ) → Good c → Agrees c s a → Closes c s a → Free c s
+    → Closes c (replyTo s (sampleOf c s bits) .state) (withCall c a (sample bits))
+sample-closes c s a bits good both old free =
+    ⊎-elim (λ e. rw (e .0, e .1) old)
+    (λ e.
+    rw (e .1, e .2)
+    (counted-closes c (bookedState c s bits) (record { time = a .time; journal = longer a bits }) good (booked-agrees c s a bits both (e .0)) (booked-closes c s a bits both old free)))
+    (sample-case c s a bits both .1)
+
+-- The other calls
+
+set-closes : (c : Config) (s : State) (a : Account) (seconds : ℕ) → Good c → Agrees c s a → Closes c s a → Closes c (replyTo s (setOf c s seconds) .state) (withCall c a (set-call seconds))
+unfolding setOf setTo withCall
+set-closes c s a seconds good both old =
+    ⊎-elim
+    (λ d.
+    rw (d .1)
+    (record {
+      units = cleared-units (s .lines);
+      closed = rw (both .clock) (closed-same c good (a .journal) (s .lines) (old .units) 1 (a .time .second));
+    }))
+    (λ e. rw e old)
+    (dated-or-not seconds)
+
+reading-closes : (c : Config) (s : State) (a : Account) (meter : ℕ) (v : ℤ) (status seq : ℕ) → Closes c s a
+    → Closes c (replyTo s (readingOf c s meter v status seq) .state) (withCall c a (reading meter v status seq))
+unfolding readingOf readingNumber withCall
+reading-closes c s a meter v status seq old =
+    by-test (ltb 31 meter) (λ t. rw t old)
+    (λ f.
+    by-test (eqb (getD (c .limits) meter 0) 0) (λ t. rw (f, t) old)
+    (λ g.
+    by-test (ltb 7 status || ltb 31 seq) (λ t. rw (f, g, t) old)
+    (λ h. rw (f, g, h) (record { units = old .units; closed = old .closed }))))
+
+reset-closes : (c : Config) (s : State) (a : Account) → Closes c s a → Closes c (resetOf c s) (withCall c a reset)
+unfolding resetOf withCall
+reset-closes c s a old = record { units = old .units; closed = old .closed }
+
+fresh-closes : (c : Config) (time : ℕ) → Closes c (freshState time) (accountOf c time [])
+unfolding freshState accountOf
+fresh-closes c time = record { units = λ i l. ap (λ (y : Line). y .units) (getD-replicate 16 i _ _ l); closed = refl }
+
+closes : (c : Config) → Good c → (time : ℕ) (calls : List Call) → Closes c (reached c time calls .state) (accountOf c time calls)
+unfolding afterAll accountOf
+closes c good time [] = fresh-closes c time
+closes c good time (sample bits ∷ earlier) =
+    let r = reached c time earlier in
+    let a = accountOf c time earlier in
+    subst (λ (k : Config). Closes c (replyTo (r .state) (sampleOf k (r .state) bits) .state) (withCall c a (sample bits))) (sym (config-stays c time earlier))
+    (sample-closes c (r .state) a bits good (agrees c time earlier) (closes c good time earlier) (hold-never-acts c good time earlier))
+closes c good time (set-call seconds ∷ earlier) =
+    let r = reached c time earlier in
+    let a = accountOf c time earlier in
+    subst (λ (k : Config). Closes c (replyTo (r .state) (setOf k (r .state) seconds) .state) (withCall c a (set-call seconds))) (sym (config-stays c time earlier))
+    (set-closes c (r .state) a seconds good (agrees c time earlier) (closes c good time earlier))
+closes c good time (reading meter v status seq ∷ earlier) =
+    let r = reached c time earlier in
+    let a = accountOf c time earlier in
+    subst (λ (k : Config). Closes c (replyTo (r .state) (readingOf k (r .state) meter v status seq) .state) (withCall c a (reading meter v status seq))) (sym (config-stays c time earlier))
+    (reading-closes c (r .state) a meter v status seq (closes c good time earlier))
+closes c good time (reset ∷ earlier) =
+    let r = reached c time earlier in
+    let a = accountOf c time earlier in
+    subst (λ (k : Config). Closes c (resetOf k (r .state)) (withCall c a reset)) (sym (config-stays c time earlier))
+    (reset-closes c (r .state) a (closes c good time earlier))
+
+-- The whole state
+
+-- an input without a denominator has no numerator
+no-numerator : (x : Input) → inputGood x ≡ true → x .denominator ≡ 0 → x .numerator ≡ 0
+no-numerator x good none =
+    let zeros = (eqb (x .shortest) 0 && eqb (x .longest) 0) && eqb (x .numerator) 0 in
+    let fitted = (eqb (x .kind) 1 || eqb (x .kind) 2) && runsGood x in
+    let top = leb 1 (x .numerator) && leb (x .numerator) 10_000 in
+    by-test (eqb (x .kind) 0 && sixZeros x)
+    (λ t. eqb-true (x .numerator) 0 (and-right (eqb (x .shortest) 0 && eqb (x .longest) 0) (eqb (x .numerator) 0) (and-left zeros (eqb (x .denominator) 0) (and-right (eqb (x .kind) 0) (sixZeros x) t))))
+    (λ f.
+    let ratio = and-right fitted (ratioGood x) (or-right (eqb (x .kind) 0 && sixZeros x) (fitted && ratioGood x) f good) in
+    let some = leb-true 1 (x .denominator) (and-right top (leb 1 (x .denominator)) (and-left (top && leb 1 (x .denominator)) (leb (x .denominator) 10_000) ratio)) in
+    absurd (omega arith))
+
+-- what whole denominators leave, also of an input that is not fitted: it has six zeros
+left-good : (x : Input) (n : ℕ) → inputGood x ≡ true → leftOver x n ≡ n * x .numerator % x .denominator
+left-good x n good =
+    by-test (eqb (x .denominator) 0)
+    (λ t.
+    let none : x .denominator ≡ 0 = eqb-true (x .denominator) 0 t in
+    let empty : x .numerator ≡ 0 = no-numerator x good none in
+    rw (t, none, empty, mul-zero))
     (λ f. rw f)
 
-module _ (c : Config) (s : State) (bits i : ℕ) (l : i < 16)
-    (free : heldSum (levelAt s i) (unitsOf (inputAt (c .inputs) i) (remAt s i)) ≡ levelAt s i + unitsOf (inputAt (c .inputs) i) (remAt s i)) where
-  booked-level : levelAt (putIn s (s .clock) (s .samples) (bookingOn c s bits .lines) (bookingOn c s bits .bills)) i ≡ levelAt s i + broughtAt c bits s i
-  unfolding filtered
-  booked-level =
-      ap (λ (x : Line). x .units) (line-after c s bits i l)
-      ∙ credit-level (inputAt (c .inputs) i) (filtered (inputAt (c .inputs) i) (lineAt (s .lines) i) (activeAt (c .inputs) bits i)) (bringsAt c bits s i) free
+-- a line, and a state, by its fields
+line-by : (x : Line) (run rejected remainder units : ℕ) → x .run ≡ run → x .rejected ≡ rejected → x .remainder ≡ remainder → x .units ≡ units
+    → x ≡ record { run = run; rejected = rejected; remainder = remainder; units = units }
+line-by x run rejected remainder units a b d e = rw (← a, ← b, ← d, ← e)
 
-  level-step : LevelStep (eqb (replyTo s (sampleOf c s bits) .number) 0) c bits i s (replyTo s (sampleOf c s bits) .state)
-  unfolding sampleOf
-  level-step =
-      let P : Answer State → Type 0 = λ a. LevelStep (eqb (replyTo s a .number) 0) c bits i s (replyTo s a .state) in
-      if-cases P (clockEnd s) (λ e. refl)
-      (λ e.
-      if-cases P (bookingOn c s bits .full) (λ f. refl)
-      (λ f.
-      counted-level c (putIn s (s .clock) (s .samples) (bookingOn c s bits .lines) (bookingOn c s bits .bills)) i l
-      ∙ rw booked-level))
+state-by : (s : State) (clock samples first : ℕ) (lines : List Line) (bills : List Bill) (meters : List Meter) (closed : Period)
+    → s .clock ≡ clock → s .samples ≡ samples → s .first ≡ first → s .lines ≡ lines → s .bills ≡ bills → s .meters ≡ meters → s .closed ≡ closed
+    → s ≡ record { clock = clock; samples = samples; first = first; lines = lines; bills = bills; meters = meters; closed = closed }
+state-by s clock samples first lines bills meters closed a b d e f g h = rw (← a, ← b, ← d, ← e, ← f, ← g, ← h)
 
--- a clock set begins a period with none
-abbrev SetLevel : Bool → ℕ → State → State → Type 0
-SetLevel true i s s′ = levelAt s′ i ≡ 0
-SetLevel false i s s′ = s′ ≡ s
+line-is : (c : Config) → Good c → (s : State) (a : Account) → Agrees c s a → Closes c s a → (i : ℕ) → i < 16 → lineAt (s .lines) i ≡ lineOf c (a .journal) i
+unfolding lineOf sections
+line-is c good s a both old i l =
+    let y = both .lines i l in
+    let left : lineAt (s .lines) i .remainder ≡ impulsesOf always i (whole c (a .journal)) * inputAt (c .inputs) i .numerator % inputAt (c .inputs) i .denominator =
+    y .remainder ∙ left-good (inputAt (c .inputs) i) _ (good .1 .0 i l) in
+    line-by (lineAt (s .lines) i) _ _ _ _ (y .run) (y .rejected) left (old .units i l)
 
-set-level : (c : Config) (s : State) (seconds i : ℕ) → i < 16
-    → SetLevel (eqb (replyTo s (setOf c s seconds) .number) 0) i s (replyTo s (setOf c s seconds) .state)
-unfolding setOf setTo momentOf cleared
-set-level c s seconds i l =
-    let P : Answer Moment → Type 0 = λ a.
-    SetLevel (eqb (replyTo s (setDated a (setTo c s seconds)) .number) 0) i s (replyTo s (setDated a (setTo c s seconds)) .state) in
-    if-cases P (ltb (1970 + yearDay (seconds / 86_400) .years) 2107)
-    (λ e. ap (λ (x : Line). x .units) (cleared-line (s .lines) i l)) (λ e. refl)
+-- a list of n entries, each of which is known
+list-is : {A : Type 0} (n : ℕ) (xs : List A) (d : A) (f : ℕ → A) → length xs ≡ n → ((i : ℕ) → i < n → getD xs i d ≡ f i) → xs ≡ table n f
+list-is n xs d f long each = sym (table-self n xs d long) ∙ table-cong n _ f each
 
--- a reading leaves the lines
-reading-lines : (c : Config) (s : State) (meter : ℕ) (v : ℤ) (status seq : ℕ) → replyTo s (readingOf c s meter v status seq) .state .lines ≡ s .lines
-unfolding readingOf
-reading-lines c s meter v status seq =
-    let P : Answer State → Type 0 = λ a. replyTo s a .state .lines ≡ s .lines in
-    if-cases P (ltb 31 meter) (λ e. refl)
-    (λ e.
-    if-cases P (eqb (getD (c .limits) meter 0) 0) (λ f. refl)
-    (λ f. if-cases P (ltb 7 status || ltb 31 seq) (λ g. refl) (λ g. refl)))
+pub state-is : (c : Config) → Good c → (time : ℕ) (calls : List Call) → reached c time calls .state ≡ stateOf c (accountOf c time calls)
+unfolding stateOf
+state-is c good time calls =
+    let s = reached c time calls .state in
+    let a = accountOf c time calls in
+    let both = agrees c time calls in
+    let old = closes c good time calls in
+    let sound = reached-is-sound c time calls in
+    let lines : s .lines ≡ table 16 (lineOf c (a .journal)) = list-is 16 (s .lines) _ _ (sound .lines .sixteen) (line-is c good s a both old) in
+    let bills : s .bills ≡ table 16 (billOf c (a .journal)) = list-is 16 (s .bills) _ _ (sound .bills .sixteen) (both .bills) in
+    let meters : s .meters ≡ table 32 (λ i. meterOf (lastReading (a .journal) i)) = list-is 32 (s .meters) _ _ (sound .meters) (both .meters) in
+    state-by s _ _ _ _ _ _ _ (both .clock) (both .samples) (both .first) lines bills meters (old .closed)
 
-module _ (c : Config) (i : ℕ) (f : Fitted c i) where
-  abbrev num : ℕ
-  num = inputAt (c .inputs) i .numerator
-
-  abbrev den : ℕ
-  den = inputAt (c .inputs) i .denominator
-
-  -- runs and the remainder are the history's
-  abbrev Says : State → List Event → ℕ → Type 0
-  Says s l n = Runs c s l × (remAt s i ≡ rem num den i 0 (whole c l))
-
-  says : (time : ℕ) (calls : List Call) → Runs c (reached c time calls .state) (eventsOf c time calls) × (remAt (reached c time calls .state) i ≡ rem num den i 0 (whole c (eventsOf c time calls)))
-  says time = by-calls c time 0 Says start book stay clear
-    where
-      start : Says (freshState time) [] 0
-      start = (λ k l. fresh time .runs k l ∙ omega arith, fresh time .remainders i (f .below))
-
-      book : (s s′ : State) (l : List Event) (n bits : ℕ) → Booked c bits s s′ → Says s l n → Says s′ (took bits (s .clock) ∷ l) n
-      book s s′ l n bits new old = (
-        λ k b. new .runs k b ∙ (ap (λ (r : ℕ). nextRun r (activeAt (c .inputs) bits k)) (old .0 k b) ∙ next-held (runOf c k l) (activeAt (c .inputs) bits k)),
-        new .remainders i (f .below)
-            ∙ rw (same-impulse c 0 s l bits i f (old .0 i (f .below)), old .1) (rem-is (inputAt (c .inputs) i) (rem num den i 0 (whole c l)) (endsImpulse c bits l i) (f .divides)),
-      )
-
-      stay : (s s′ : State) (l : List Event) (n : ℕ) → Still s s′ → Says s l n → Says s′ l n
-      stay s s′ l n same old = (λ k b. same .lines .runs k b ∙ old .0 k b, same .lines .remainders i (f .below) ∙ old .1)
-
-      clear : (s s′ : State) (l : List Event) (n : ℕ) → Closed c s s′ → Says s l n → Says s′ (cleared-event ∷ l) (n + closedAt s′ 0)
-      clear s s′ l n new old = (λ k b. new .lines .runs k b ∙ old .0 k b, new .lines .remainders i (f .below) ∙ old .1)
-
-  -- the units of these events, one sample after another
-  abbrev brings : List Event → ℕ
-  brings l = units num den i always 0 (whole c l)
-
-  module _ (good : Accepted c) (time : ℕ) where
-    -- level 0 and the units before the period are all units
-    abbrev Full : State → List Event → List Event → Type 0
-    Full s before all = levelAt s i + brings before ≡ brings all
-
-    -- the recorder closes a period when the history does
-    same-closing : (calls : List Call) → closesAt c (reached c time calls .state) ≡ closesPeriod c time calls
-    same-closing calls =
-        let s = reached c time calls .state in
-        rw (← clock-is c time calls)
-        (by-test (leb 99 (s .samples))
-        (λ t. rw (t, eq-eqb (s .samples) 99 (omega (arith, leb-true 99 (s .samples) t, reached-is-sound c time calls .samples))))
-        (λ n. rw (n, ne-eqb (s .samples) 99 (λ e. omega (arith, leb-false 99 (s .samples) n)))))
-
-    -- a sample brings the units that the history says
-    brought-is : (calls : List Call) (bits : ℕ) → let s = reached c time calls .state in let l = eventsOf c time calls in
-        broughtAt c bits s i ≡ paidUnits num den (endsImpulse c bits l i) (rem num den i 0 (whole c l))
-    brought-is calls bits =
-        let s = reached c time calls .state in
-        let l = eventsOf c time calls in
-        let q = says time calls in
-        rw (same-impulse c 0 s l bits i f (q .0 i (f .below)), q .1) (unit-is (inputAt (c .inputs) i) (rem num den i 0 (whole c l)) (endsImpulse c bits l i) (f .divides))
-
-    -- a sample, with the configuration that the start gave, whose hold never acts
-    level-at : (calls : List Call) (bits : ℕ) → LevelStep (takesSample c time calls bits) c bits i (reached c time calls .state) (reached c time (sample bits ∷ calls) .state)
-    unfolding afterAll
-    level-at calls bits =
-        let r = reached c time calls in
-        let stays = config-stays c time calls in
-        subst (λ (k : Config). LevelStep (takesSample c time calls bits) k bits i (r .state) (reached c time (sample bits ∷ calls) .state)) stays
-        (level-step (r .config) (r .state) bits i (f .below) (rw stays (hold-never-acts c (good .good) time calls i (f .below))))
-
-    -- one sample more
-    full-sample : (calls : List Call) (bits : ℕ) (t : Bool) (s′ : State) → LevelStep t c bits i (reached c time calls .state) s′
-        → Full (reached c time calls .state) (beforePeriod c time calls) (eventsOf c time calls)
-        → let all = if t then took bits (timeOf c time calls .second) ∷ eventsOf c time calls else eventsOf c time calls in
-        Full s′ (if t && closesPeriod c time calls then all else beforePeriod c time calls) all
-    full-sample calls bits true s′ e old =
-        by-test (closesPeriod c time calls)
-        (λ t. rw (e, same-closing calls, t) (zero-add _))
-        (λ n. rw (e, same-closing calls, n, brought-is calls bits) (omega (arith, old)))
-    full-sample calls bits false s′ e old = rw e old
-
-    -- a clock set
-    full-set : (calls : List Call) (t : Bool) (s′ : State) → SetLevel t i (reached c time calls .state) s′
-        → Full (reached c time calls .state) (beforePeriod c time calls) (eventsOf c time calls)
-        → Full s′ (if t then eventsOf c time calls else beforePeriod c time calls) (eventsOf c time calls)
-    full-set calls true s′ e old = rw e (zero-add _)
-    full-set calls false s′ e old = rw e old
-
-    full : (calls : List Call) → Full (reached c time calls .state) (beforePeriod c time calls) (eventsOf c time calls)
-    unfolding afterAll freshState resetOf
-    full [] = ap (λ (x : Line). x .units + 0) (getD-replicate 16 i _ _ (f .below))
-    full (sample bits ∷ calls) = full-sample calls bits (takesSample c time calls bits) _ (level-at calls bits) (full calls)
-    full (set seconds ∷ calls) =
-        full-set calls (takesSet c time calls seconds) _ (set-level (reached c time calls .config) (reached c time calls .state) seconds i (f .below)) (full calls)
-    full (reading meter v status seq ∷ calls) =
-        ap (λ (lines : List Line). lineAt lines i .units + brings (beforePeriod c time calls)) (reading-lines (reached c time calls .config) (reached c time calls .state) meter v status seq)
-        ∙ full calls
-    full (reset ∷ calls) = full calls
-
-pub level-of-history : LevelOfHistory
-unfolding sections
-level-of-history c good time calls i l fitted =
-    let kind : eqb (inputAt (c .inputs) i .kind) 0 ≡ false = ne-eqb _ 0 fitted in
-    let f : Fitted c i = record { below = l; divides = good-denominator (inputAt (c .inputs) i) (good .good .1 .0 i l) kind; short = good .bytes i l } in
-    let down : (es : List Sample) → units (num c i f) (den c i f) i always 0 es ≡ impulsesOf always i es * num c i f / den c i f = rounded-down (num c i f) (den c i f) i (f .divides) always (λ t. refl) in
-    rw (← down (whole c (beforePeriod c time calls)), ← down (whole c (eventsOf c time calls))) (full c i f good time calls)
+pub state-of-history : StateOfHistory
+state-of-history c accepted time calls =
+    ap₂ (λ (k : Config) (s : State). record { config = k; state = s }) (config-stays c time calls) (state-is c (accepted .good) time calls)

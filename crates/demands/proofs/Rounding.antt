@@ -7,7 +7,8 @@ use native.Mathlib.Nat.{add-mul, add-zero, one-mul, zero-mul, mul-suc, mul-comm,
 use native.Mathlib.Omega.{arith}
 use Rattle.laws.specs.If.{if_then_else_}
 use Rattle.laws.specs.Masks.{bit}
-use Rattle.demands.specs.Account.{Sample, always, impulsesOf, running, stretchesOf, productOf}
+use Rattle.demands.specs.Account.{Sample, impulsesOf}
+use Rattle.demands.specs.Energy.{running, stretchesOf, productOf}
 use Rattle.demands.specs.Demand3.{Near}
 use Rattle.demands.proofs.Sums.{added, scaled, added-zero, added-same, added-some, scaled-whole, scaled-add, scaled-zero, scaled-less, scaled-direct}
 
@@ -37,27 +38,6 @@ next-lt num den pos false r h = h
 pub rem-lt : (num den i : ℕ) → 0 < den → (r : ℕ) → r < den → (es : List Sample) → rem num den i r es < den
 rem-lt num den i pos r h [] = h
 rem-lt num den i pos r h (e ∷ es) = next-lt num den pos (e .impulse i) (rem num den i r es) (rem-lt num den i pos r h es)
-
--- nothing is lost at a sample that is booked: units and remainder are the start and the energy
-all-step : (num den : ℕ) (p : Bool) (u r n start : ℕ) → u * den + r ≡ start + n * num
-    → (u + paidUnits num den p r) * den + nextRem num den p r ≡ start + (n + bit p) * num
-all-step num den true u r n start e = simp add-mul (omega (arith, div-add-mod' (r + num) den, one-mul num))
-all-step num den false u r n start e = simp add-zero e
-
--- nor while all is booked
-pub all-booked : (num den i : ℕ) (on : ℕ → Bool) → ((t : ℕ) → on t ≡ true) → (r : ℕ) (es : List Sample)
-    → units num den i on r es * den + rem num den i r es ≡ r + impulsesOf always i es * num
-all-booked num den i on every r [] = omega arith
-all-booked num den i on every r (e ∷ es) =
-    rw (every (e .second)) (all-step num den (e .impulse i) _ (rem num den i r es) _ r (all-booked num den i on every r es))
-
--- so the units are the energy rounded down once, from remainder 0
-pub rounded-down : (num den i : ℕ) → 0 < den → (on : ℕ → Bool) → ((t : ℕ) → on t ≡ true) → (es : List Sample)
-    → units num den i on 0 es ≡ impulsesOf always i es * num / den
-rounded-down num den i pos on every es =
-    let lt : rem num den i 0 es < den = rem-lt num den i pos 0 pos es in
-    let eq : units num den i on 0 es * den + rem num den i 0 es ≡ 0 + impulsesOf always i es * num = all-booked num den i on every 0 es in
-    sym (div-eq-of-lt-le den (omega arith) (simp add-mul (omega arith)))
 
 -- units u, impulses n and stretches s agree up to m = den - 1 for each stretch; in a stretch that still runs the remainder r counts
 abbrev Bound : (num den m : ℕ) → Bool → ℕ → ℕ → ℕ → ℕ → Type 0

@@ -17,7 +17,7 @@ use Rattle.settings.specs.declared.Input.{Input}
 use Rattle.image.proofs.Found.{read-holds}
 use Rattle.recorder.specs.Calls.{startDated, startFrom}
 use Rattle.recorder.specs.History.{freshStart}
-use Rattle.demands.specs.Demand3.{Accepted, StartIsFresh}
+use Rattle.demands.specs.Starts.{Accepted, StartIsFresh}
 
 -- the longest run is a byte
 abbrev ByteRun : Input → Type 0

@@ -2,18 +2,24 @@
 use mathlib.Core.Path.{_≡_, refl, sym, ap, _∙_}
 use mathlib.Core.Bool.{Bool, true, false}
 use mathlib.Core.Logic.{⊎-elim}
-use Prim.Native.Nat.{ℕ, zero, suc, _+_, _*_, _/_, _<_, _≤_}
+use Prim.Native.Nat.{ℕ, zero, suc, _+_, _-_, _*_, _/_, _<_, _≤_}
 use native.Mathlib.Nat.{add-mul, mul-add, mul-assoc, mul-comm, mul-one, one-mul, zero-mul, mul-zero, mul-pos, mul-le-mul-left, mul-le-mul-right, mul-div-cancel-left, eq-or-lt-of-le, le-of-suc-le-suc}
 use native.Mathlib.Omega.{arith}
 use Rattle.laws.specs.If.{if_then_else_}
 use Rattle.laws.specs.Tests.{by-test}
-use Rattle.laws.specs.Total.{total, total-cong, total-zero}
-use Rattle.counting.specs.Bills.{partOf}
-use Rattle.demands.specs.Account.{productOf}
+use Rattle.laws.specs.Total.{total, total-cong, total-zero, total-plus}
+use Rattle.laws.specs.Masks.{bitAt}
+use Rattle.counting.specs.Bills.{partOf, namedPart, sumOf}
+use Rattle.demands.specs.Energy.{productOf}
 
 -- f added up over the named places
 abbrev pub added : (ℕ → Bool) → (ℕ → ℕ) → ℕ → ℕ
 added named f n = total n (λ i. partOf (named i) (f i))
+
+-- a sum over the inputs that a mask names
+pub sum-added : (mask : ℕ) (f : ℕ → ℕ) → sumOf mask f ≡ added (bitAt mask) f 16
+unfolding sumOf namedPart
+sum-added mask f = refl
 
 -- the fractions a i over d i of the named places, added up one by one and multiplied by the product of these d i: s/p + a/d is (s * d + a * p)/(p * d)
 unfoldable pub scaled : (ℕ → Bool) → (ℕ → ℕ) → (ℕ → ℕ) → ℕ → ℕ
@@ -42,6 +48,11 @@ module _ (named : ℕ → Bool) where
       go true false a b x y z e = omega arith
       go false true a b x y z e = omega arith
       go false false a b x y z e = omega arith
+
+  -- terms and what others have more
+  pub added-grown : (f g : ℕ → ℕ) (n : ℕ) → ((i : ℕ) → f i ≤ g i) → added named f n + added named (λ i. g i - f i) n ≡ added named g n
+  added-grown f g n grows =
+      sym (total-plus n _ _) ∙ total-cong n _ _ (λ i l. by-test (named i) (λ e. rw e (omega (arith, grows i))) (λ e. rw e))
 
   -- the same term at each
   pub added-same : (s n : ℕ) → added named (λ i. s) n ≡ added named (λ i. 1) n * s

@@ -7,7 +7,7 @@ use mathlib.Core.Logic.{_⊎_}
 use Prim.Native.Nat.{ℕ, _+_, _<_, _≤_}
 use lib.Dec.{eqb}
 use lib.IntN.{ℤ}
-use lib.ListN.{length, getD, drop}
+use lib.ListN.{length, getD, take, drop}
 use Rattle.laws.specs.If.{if_then_else_}
 use Rattle.laws.specs.Answers.{Answer, given, refused}
 use Rattle.laws.specs.Bytes.{le}
@@ -24,7 +24,7 @@ use Rattle.counting.specs.Units.{creditsOf}
 use Rattle.counting.specs.Bills.{billAt, sumsOf, dueAt}
 use Rattle.sampling.specs.Samples.{activeLines}
 use Rattle.recorder.specs.Meters.{ageOf}
-use Rattle.recorder.specs.Calls.{startReply, sampleReply, setReply, readingReply}
+use Rattle.recorder.specs.Calls.{startReply, sampleReply, samplesReply, setReply, readingReply}
 use Rattle.recorder.specs.declared.Recorder.{Recorder}
 use Rattle.registers.specs.Registers.{Group, groups, groupOf, registersOf, fitted, registerReply}
 
@@ -106,11 +106,19 @@ writeRefusals c buffer = record { number = 4; due = FirstBadAt (sections c) } �
 abbrev pub ageRefusals : ℕ → ℕ → List Refusal
 ageRefusals limit status = at 8 0 (limit ≡ 0) ∷ at 10 0 (7 < status) ∷ []
 
+-- a run of samples: all were taken, or the first that was not is refused with its own number, on the recorder that the others left
+abbrev pub RunEnds : Recorder → List ℕ → Type 0
+RunEnds r run =
+    let reply = samplesReply r run in
+    ((reply .taken ≡ length run) × (reply .number ≡ 0))
+    ⊎ ((reply .taken < length run) × (reply .number ≡ 0 → ⊥) × Ordered (sampleRefusals (reply .recorder) (getD run (reply .taken) 0)) (numbered (reply .number)))
+
 -- each call, on every recorder, ends with its result or with exactly the number that the rules name: "Order: start 1, 2, 3, 4, 9; sample 5, 6; reading 7, 8, 10; register 11, 12, 8, 13. Clock sets can give only 9"
 pub record NumbersExact : Type 0 where
   pub images : (b : List ℕ) → Ordered (imageRefusals b) (imageAnswer b)
   pub starts : (b : List ℕ) (time : ℕ) → Ordered (imageRefusals b ++ (noDate time ∷ [])) (startReply b time .answer)
   pub samples : (r : Recorder) (bits : ℕ) → Ordered (sampleRefusals r bits) (numbered (sampleReply r bits .number))
+  pub runs : (r : Recorder) (run : List ℕ) → RunEnds r run
   pub sets : (r : Recorder) (time : ℕ) → Ordered (noDate time ∷ []) (numbered (setReply r time .number))
   pub readings : (r : Recorder) (meter : ℕ) (value : ℤ) (status seq : ℕ)
       → Ordered (readingRefusals r meter status seq) (numbered (readingReply r meter value status seq .number))
@@ -122,6 +130,7 @@ pub record NumbersExact : Type 0 where
 -- "A refused call changes no byte of any buffer lent to it", and nothing in the recorder
 pub record RefusedChangesNothing : Type 0 where
   pub samples : (r : Recorder) (bits : ℕ) → (sampleReply r bits .number ≡ 0 → ⊥) → sampleReply r bits .recorder ≡ r
+  pub runs : (r : Recorder) (run : List ℕ) → samplesReply r run .recorder ≡ samplesReply r (take (samplesReply r run .taken) run) .recorder
   pub sets : (r : Recorder) (time : ℕ) → (setReply r time .number ≡ 0 → ⊥) → setReply r time .recorder ≡ r
   pub readings : (r : Recorder) (meter : ℕ) (value : ℤ) (status seq : ℕ)
       → (readingReply r meter value status seq .number ≡ 0 → ⊥) → readingReply r meter value status seq .recorder ≡ r

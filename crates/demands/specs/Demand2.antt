@@ -1,15 +1,15 @@
 -- Demand 2: "Impulses, tariffs, period results, bills and register bytes are those of the POREG 2 description as document 01 makes it exact, over the Gregorian calendar. A configuration written and read
--- back is the same configuration; an accepted image read and written is the same bytes. A serial value from a meter not awake always carries the invalid mark."
+-- back is the same configuration; an accepted image read and written is the same bytes. A serial value from a meter not awake always carries the invalid mark." Account.antt says what a history comes
+-- to, from the calls alone; here the recorder is compared with it.
 use mathlib.Core.Path.{_≡_}
-use mathlib.Core.Bool.{Bool, true, false, not, _&&_}
-use mathlib.Core.List.{List, [], _∷_}
-use Prim.Native.Nat.{ℕ, _+_, _*_, _/_, _<_, min}
-use lib.Dec.{ltb, eqb}
-use lib.IntN.{pos}
+use mathlib.Core.Bool.{true, false}
+use mathlib.Core.List.{List, [], _∷_, _++_}
+use Prim.Native.Nat.{ℕ, suc, _%_}
+use lib.Dec.{eqb}
+use lib.ListN.{getD, take, drop}
 use Rattle.laws.specs.If.{if_then_else_}
 use Rattle.laws.specs.Answers.{given}
-use Rattle.laws.specs.Masks.{bit, bitAt}
-use Rattle.laws.specs.Tables.{table}
+use Rattle.laws.specs.Masks.{bitAt}
 use Rattle.calendar.specs.Moments.{momentOf}
 use Rattle.calendar.specs.Laws.{FoundIsMoment, OneMoment, AlwaysDated}
 use Rattle.calendar.specs.declared.Moment.{Moment}
@@ -17,99 +17,86 @@ use Rattle.tariff.specs.Rules.{inForce, forceMapAt}
 use Rattle.tariff.specs.declared.Program.{Program}
 use Rattle.image.specs.Laws.{WrittenIsRead, ReadIsWritten}
 use Rattle.settings.specs.declared.Config.{Config}
-use Rattle.counting.specs.Filter.{inputAt, lineAt}
-use Rattle.sampling.specs.Periods.{multiple}
-use Rattle.sampling.specs.Samples.{activeAt}
-use Rattle.recorder.specs.Calls.{freshState, readingReply}
+use Rattle.recorder.specs.Calls.{sampleReply, samplesReply, setReply, readingReply}
 use Rattle.recorder.specs.History.{Call, sample, set, reading, reset, afterAll, freshStart}
-use Rattle.sampling.specs.declared.Meter.{Meter}
 use Rattle.recorder.specs.declared.Recorder.{Recorder}
 use Rattle.registers.specs.Fleet.{meterAt, fleetOf}
-use Rattle.registers.specs.Laws.{InvalidMark, AwakeUnmarked, BytesAsTable}
-use Rattle.demands.specs.Account.{takesSample, takesSet, timeOf, Event, took, cleared, eventsOf, runOf, endsImpulse, whole, always, impulsesOf}
-use Rattle.demands.specs.Demand3.{Accepted}
+use Rattle.registers.specs.Laws.{BytesAsTable, GivenFirst}
+use Rattle.registers.specs.Registers.{registerReply}
+use Rattle.demands.specs.Account.{Account, sampleNumber, answerOf, withCall, accountOf}
+use Rattle.demands.specs.Starts.{Accepted, StartIsFresh}
+use Rattle.demands.specs.State.{stateOf}
+use Rattle.demands.specs.Shown.{isAwake, fleetIn, shown}
 
--- "The clock counts seconds": the recorder's clock and the samples of its second are what the history says
-abbrev pub ClockOfHistory : Type 0
-ClockOfHistory =
-    (c : Config) (time : ℕ) (calls : List Call) → let s = afterAll (freshStart c time) calls .state in
-    (s .clock ≡ timeOf c time calls .second) × (s .samples ≡ timeOf c time calls .samples)
+-- the recorder after a history
+abbrev pub reached : Config → ℕ → List Call → Recorder
+reached c time calls = afterAll (freshStart c time) calls
 
--- "A reading brings meter, value, STATUS and SEQ, and is stamped with the clock": the last accepted reading of a meter in a history; none before the first
-abbrev pub lastReading : Config → ℕ → List Call → ℕ → Meter
-lastReading c time [] i = record { read = false; stamp = 0; value = pos 0; status = 0; seq = 0 }
-lastReading c time (sample bits ∷ earlier) i = lastReading c time earlier i
-lastReading c time (set seconds ∷ earlier) i = lastReading c time earlier i
-lastReading c time (reset ∷ earlier) i = lastReading c time earlier i
-lastReading c time (reading meter value status seq ∷ earlier) i =
-    if eqb (readingReply (afterAll (freshStart c time) earlier) meter value status seq .number) 0 && eqb meter i
-    then record { read = true; stamp = timeOf c time earlier .second; value = value; status = status; seq = seq }
-    else lastReading c time earlier i
+-- the number with which a recorder answers a call; a billing reset is never refused
+abbrev pub numberOf : Recorder → Call → ℕ
+numberOf r (sample bits) = sampleReply r bits .number
+numberOf r (set seconds) = setReply r seconds .number
+numberOf r (reading meter value status seq) = readingReply r meter value status seq .number
+numberOf r reset = 0
 
--- each meter of the recorder has the last reading of the history
-abbrev pub MetersOfHistory : Type 0
-MetersOfHistory =
-    (c : Config) (time : ℕ) (calls : List Call) (i : ℕ) → i < 32
-    → meterAt (afterAll (freshStart c time) calls .state .meters) i ≡ lastReading c time calls i
+-- after any history each call is answered with the account's number: so a recorder that refuses what it should take, or takes what it should refuse, is none
+abbrev pub AnswersOfHistory : Type 0
+AnswersOfHistory = (c : Config) (time : ℕ) (calls : List Call) (call : Call) → numberOf (reached c time calls) call ≡ answerOf c (accountOf c time calls) call
 
--- a recorder that has only the clock and the meters of a history
-abbrev pub heard : Config → ℕ → List Call → Recorder
-heard c time calls =
-    let s = freshState (timeOf c time calls .second) in
-    record {
-      config = c;
-      state =
-          record {
-            clock = s .clock;
-            samples = s .samples;
-            first = s .first;
-            lines = s .lines;
-            bills = s .bills;
-            meters = table 32 (lastReading c time calls);
-            closed = s .closed;
-          };
-    }
+-- the recorder is what its history says: the configuration of its start, and the state that the account spells out
+abbrev pub StateOfHistory : Type 0
+StateOfHistory =
+    (c : Config) → Accepted c → (time : ℕ) (calls : List Call) → reached c time calls ≡ record { config = c; state = stateOf c (accountOf c time calls) }
 
--- "fitted, awake, stale, invalid, never .. signed sum of awake values" are what the history says
+-- how many samples of a run the account takes
+abbrev pub takenIn : Config → Account → List ℕ → ℕ
+takenIn c a [] = 0
+takenIn c a (bits ∷ more) = if eqb (sampleNumber c a bits) 0 then suc (takenIn c (withCall c a (sample bits)) more) else 0
+
+-- the number that ends the run: that of its first refused sample, 0 where there is none
+abbrev pub endOf : Config → Account → List ℕ → ℕ
+endOf c a [] = 0
+endOf c a (bits ∷ more) = if eqb (sampleNumber c a bits) 0 then endOf c (withCall c a (sample bits)) more else sampleNumber c a bits
+
+-- the calls with these samples after them, one by one
+abbrev pub withSamples : List ℕ → List Call → List Call
+withSamples [] calls = calls
+withSamples (bits ∷ more) calls = withSamples more (sample bits ∷ calls)
+
+-- a run of samples is its samples one after another, up to the first refusal
+abbrev pub RunsOfHistory : Type 0
+RunsOfHistory =
+    (c : Config) (time : ℕ) (calls : List Call) (run : List ℕ) →
+    let reply = samplesReply (reached c time calls) run in
+    let taken = takenIn c (accountOf c time calls) run in
+    (reply .taken ≡ taken) × (reply .number ≡ endOf c (accountOf c time calls) run) × (reply .recorder ≡ reached c time (withSamples (take taken run) calls))
+
+-- each register that is read after a history has the bytes that the account shows, and the rest of the buffer is as it was
+abbrev pub RegistersOfHistory : Type 0
+RegistersOfHistory =
+    (c : Config) → Accepted c → (time : ℕ) (calls : List Call) (group register : ℕ) (buffer : List ℕ) (n : ℕ)
+    → registerReply (reached c time calls) group register buffer .answer ≡ given n
+    → registerReply (reached c time calls) group register buffer .buffer ≡ shown c (accountOf c time calls) group register ++ drop n buffer
+
+-- the fleet is counted as the history says: fitted, awake, stale, invalid, never, and the signed sum of the awake values
 abbrev pub FleetOfHistory : Type 0
-FleetOfHistory = (c : Config) (time : ℕ) (calls : List Call) → fleetOf (afterAll (freshStart c time) calls) ≡ fleetOf (heard c time calls)
+FleetOfHistory = (c : Config) → Accepted c → (time : ℕ) (calls : List Call) → fleetOf (reached c time calls) ≡ fleetIn c (accountOf c time calls)
 
--- "The first inactive sample after a run of at least 1 ends it: shortest to longest inclusive is an accepted impulse, any other run a rejected one": the runs of input i that a history rejects
-abbrev pub rejectedRuns : Config → ℕ → List Event → ℕ
-rejectedRuns c i [] = 0
-rejectedRuns c i (took bits second ∷ earlier) =
-    let ended = not (activeAt (c .inputs) bits i) && ltb 0 (runOf c i earlier) in
-    rejectedRuns c i earlier + bit (ended && not (endsImpulse c bits earlier i))
-rejectedRuns c i (cleared ∷ earlier) = rejectedRuns c i earlier
+-- "A serial value from a meter not awake always carries the invalid mark", in every state and for every request: IV, the lowest bit of STATUS, byte 8 of a register of group 82
+abbrev pub InvalidMark : Type 0
+InvalidMark =
+    (r : Recorder) (meter : ℕ) (buffer : List ℕ) (n : ℕ) → registerReply r 82 meter buffer .answer ≡ given n →
+    let m = meterAt (r .state .meters) meter in
+    isAwake (getD (r .config .limits) meter 0) (m .read) (m .stamp) (m .status) (r .state .clock) ≡ false
+    → getD (registerReply r 82 meter buffer .buffer) 8 0 % 2 ≡ 1
 
--- the rejected count of an input is what the history says, "count held at 65,535"
-abbrev pub RejectedOfHistory : Type 0
-RejectedOfHistory =
-    (c : Config) → Accepted c → (time : ℕ) (calls : List Call) (i : ℕ) → i < 16
-    → lineAt (afterAll (freshStart c time) calls .state .lines) i .rejected ≡ min 65_535 (rejectedRuns c i (eventsOf c time calls))
-
--- "if it is then a multiple of the period's seconds, the period closes": a sample after these calls closes the period
-abbrev pub closesPeriod : Config → ℕ → List Call → Bool
-closesPeriod c time earlier = eqb (timeOf c time earlier .samples) 99 && multiple (c .period) (timeOf c time earlier .second + 1)
-
--- the events before the running period: it began at the start, with the step after a closing sample, or with a clock set
-abbrev pub beforePeriod : Config → ℕ → List Call → List Event
-beforePeriod c time [] = []
-beforePeriod c time (sample bits ∷ earlier) =
-    if takesSample c time earlier bits && closesPeriod c time earlier then eventsOf c time (sample bits ∷ earlier) else beforePeriod c time earlier
-beforePeriod c time (set seconds ∷ earlier) = if takesSet c time earlier seconds then eventsOf c time earlier else beforePeriod c time earlier
-beforePeriod c time (reading meter value status seq ∷ earlier) = beforePeriod c time earlier
-beforePeriod c time (reset ∷ earlier) = beforePeriod c time earlier
-
--- "An accepted impulse adds the numerator to the input's remainder; whole denominators leave it as units": the units of input i in these events
-abbrev pub unitsOfEvents : Config → ℕ → List Event → ℕ
-unitsOfEvents c i events = impulsesOf always i (whole c events) * inputAt (c .inputs) i .numerator / inputAt (c .inputs) i .denominator
-
--- "Level 0 and level 1 are units of the period": level 0 of a fitted input is the units of all events less those of the events before the period
-abbrev pub LevelOfHistory : Type 0
-LevelOfHistory =
-    (c : Config) → Accepted c → (time : ℕ) (calls : List Call) (i : ℕ) → i < 16 → (inputAt (c .inputs) i .kind ≡ 0 → ⊥)
-    → lineAt (afterAll (freshStart c time) calls .state .lines) i .units + unitsOfEvents c i (beforePeriod c time calls) ≡ unitsOfEvents c i (eventsOf c time calls)
+-- and that of an awake meter never does
+abbrev pub AwakeUnmarked : Type 0
+AwakeUnmarked =
+    (r : Recorder) (meter : ℕ) (buffer : List ℕ) (n : ℕ) → registerReply r 82 meter buffer .answer ≡ given n →
+    let m = meterAt (r .state .meters) meter in
+    isAwake (getD (r .config .limits) meter 0) (m .read) (m .stamp) (m .status) (r .state .clock) ≡ true
+    → getD (registerReply r 82 meter buffer .buffer) 8 0 % 2 ≡ 0
 
 -- the tariff rules in force at a second are those of its calendar moment: bit i of the map is rule i
 abbrev pub TariffOfMoment : Type 0
@@ -123,16 +110,18 @@ pub record Demand2 : Type 0 where
   -- "A serial value from a meter not awake always carries the invalid mark."
   pub invalid-mark : InvalidMark
   pub awake-unmarked : AwakeUnmarked
-  -- clock, readings, counts of meters, rejected impulses and level 0 are what the history says
-  pub clock : ClockOfHistory
-  pub meters : MetersOfHistory
+  -- each start in the field begins a history; what its calls are answered, the recorder after them, runs of samples, registers and fleet are what the history says
+  pub start-is-fresh : StartIsFresh
+  pub answers : AnswersOfHistory
+  pub state : StateOfHistory
+  pub runs : RunsOfHistory
+  pub registers : RegistersOfHistory
   pub fleet : FleetOfHistory
-  pub rejected : RejectedOfHistory
-  pub level-0 : LevelOfHistory
   -- tariffs are those of the moment, and each second of the clock has one moment of the Gregorian calendar
   pub tariffs : TariffOfMoment
   pub dated : AlwaysDated
   pub calendar : FoundIsMoment
   pub one-moment : OneMoment
-  -- each register holds as many bytes as its line of the table has
+  -- each register holds as many bytes as its line of the table has, and a read changes only these
   pub bytes : BytesAsTable
+  pub given-first : GivenFirst

@@ -1,33 +1,35 @@
 -- The owner's third demand: "Take any sequence of samples, clock sets, readings and billing resets from a fresh start." Each type below is a theorem; Demand3 names
--- them all, and proofs/Checks.antt has the proof.
+-- them all, and proofs/Checks.antt has the proof. The account of a history (Account.antt) is worked out from the calls alone; `openOf` and `closedOf` are the recorder's.
 use mathlib.Core.Path.{_≡_}
 use mathlib.Core.Bool.{Bool, true, false, not, _&&_}
 use mathlib.Core.List.{List, [], _∷_, _++_}
-use Prim.Native.Nat.{ℕ, _+_, _*_, _/_, _<_}
+use Prim.Native.Nat.{ℕ, suc, _+_, _*_, _/_, _<_}
+use lib.Dec.{ltb}
+use lib.ListN.{getD}
+use Rattle.laws.specs.If.{if_then_else_}
 use Rattle.laws.specs.Each.{Each}
 use Rattle.laws.specs.Total.{total}
 use Rattle.laws.specs.Masks.{bit, bitAt}
-use Rattle.laws.specs.Bytes.{Bytes}
-use Rattle.laws.specs.Answers.{given}
-use Rattle.image.specs.Answers.{imageConfig}
 use Rattle.settings.specs.declared.Config.{Config}
 use Rattle.counting.specs.Filter.{inputAt}
-use Rattle.counting.specs.Bills.{registerAt, partOf}
-use Rattle.recorder.specs.Calls.{startReply}
-use Rattle.recorder.specs.History.{Call, freshStart}
-use Rattle.recorder.specs.Laws.{Good}
-use Rattle.demands.specs.Account.{Event, Sample, eventsOf, closedOf, openOf, whole, since, booksAt, always, stretchesOf, feeding, countOf, scaleOf, energyOf, wholeUnitsOf}
+use Rattle.counting.specs.Bills.{registerAt, billAt, partOf}
+use Rattle.sampling.specs.Samples.{activeAt}
+use Rattle.recorder.specs.History.{Call, sample, set, reading, reset, afterAll, freshStart}
+use Rattle.demands.specs.Account.{Entry, took, ended, cleared, heard, Sample, runOf, endsRun, inRange, whole, since, bookedIn, booksAt, feeding, always, journalOf}
+use Rattle.demands.specs.Starts.{Accepted}
+use Rattle.demands.specs.Energy.{stretchesOf, inputsIn, scaleOf, energyOf, wholeUnitsOf}
 
--- a configuration that the image check accepts: each entry keeps its rule, and the longest runs are bytes, as the image has them
-pub record Accepted (c : Config) : Type 0 where
-  pub good : Good c
-  pub bytes : (i : ℕ) → i < 16 → inputAt (c .inputs) i .longest < 256
+-- the recorder's open amount of bill register j after a history
+abbrev pub openOf : Config → ℕ → ℕ → List Call → ℕ
+openOf c time j calls = billAt (afterAll (freshStart c time) calls .state .bills) j .amount
 
--- a start call that is not refused gives such a configuration and the fresh start of a history: so no more is asked below than each start in the field has
-abbrev pub StartIsFresh : Type 0
-StartIsFresh =
-    (image : List ℕ) → Bytes image → (time : ℕ) → startReply image time .answer ≡ given tt
-    → Accepted (imageConfig image) × (startReply image time .recorder ≡ freshStart (imageConfig image) time)
+-- all its closed bills together: what the recorder noted at each billing reset
+abbrev pub closedOf : Config → ℕ → ℕ → List Call → ℕ
+closedOf c time j [] = 0
+closedOf c time j (sample bits ∷ earlier) = closedOf c time j earlier
+closedOf c time j (set seconds ∷ earlier) = closedOf c time j earlier
+closedOf c time j (reading meter value status seq ∷ earlier) = closedOf c time j earlier
+closedOf c time j (reset ∷ earlier) = closedOf c time j earlier + billAt (afterAll (freshStart c time) (reset ∷ earlier) .state .bills) j .closed
 
 -- bill register j is in use: it is one of the sixteen, on one of the eight sums
 abbrev pub InUse : Config → ℕ → Type 0
@@ -48,21 +50,20 @@ pub record Near (amount energy scale pieces : ℕ) : Type 0 where
 abbrev pub OpenAmount : Type 0
 OpenAmount =
     (c : Config) → Accepted c → (time : ℕ) (calls : List Call) (j : ℕ) → InUse c j →
-    let samples = since c (eventsOf c time calls) in
+    let samples = since c (journalOf c time calls) in
     let inputs = feeding c j in
     Near (openOf c time j calls) (energyOf c (booksAt c j) inputs samples) (scaleOf c inputs)
-    (countOf inputs * stretchesOf (booksAt c j) samples)
+    (inputsIn inputs * stretchesOf (booksAt c j) samples)
 
 -- "For an amount without a tariff, all closed bills and the open one together are the exact energy of the whole history, rounded down once for each feeding input."
 abbrev pub PlainBills : Type 0
 PlainBills =
-    (c : Config) → Accepted c → (time : ℕ) (calls : List Call) (j : ℕ) → InUse c j → WithoutRule c j →
-    closedOf c time j calls + openOf c time j calls ≡ wholeUnitsOf c always (feeding c j) (whole c (eventsOf c time calls))
+    (c : Config) (time : ℕ) (calls : List Call) (j : ℕ) → InUse c j → WithoutRule c j →
+    closedOf c time j calls + openOf c time j calls ≡ wholeUnitsOf c always (feeding c j) (whole c (journalOf c time calls))
 
--- each of the chosen registers is in use, on the sum of register k
-abbrev pub OnSumOf : Config → ℕ → (ℕ → Bool) → Type 0
-OnSumOf c k chosen =
-    (j : ℕ) → j < 16 → chosen j ≡ true → InUse c j × (registerAt (c .registers) j .sum ≡ registerAt (c .registers) k .sum)
+-- each of the chosen registers is in use, on this sum
+abbrev pub OnSum : Config → ℕ → (ℕ → Bool) → Type 0
+OnSum c sum chosen = (j : ℕ) → j < 16 → chosen j ≡ true → InUse c j × (registerAt (c .registers) j .sum ≡ sum)
 
 -- the rule of exactly one of the chosen registers was in force at this sample
 abbrev pub ExactlyOne : Config → (ℕ → Bool) → Sample → Type 0
@@ -72,9 +73,16 @@ ExactlyOne c chosen e = total 16 (λ j. bit (chosen j && booksAt c j (e .second)
 -- open amount without a tariff."
 abbrev pub AmountsAddUp : Type 0
 AmountsAddUp =
-    (c : Config) → Accepted c → (time : ℕ) (calls : List Call) (k : ℕ) → InUse c k → WithoutRule c k →
-    (chosen : ℕ → Bool) → OnSumOf c k chosen → Each (ExactlyOne c chosen) (since c (eventsOf c time calls)) →
+    (c : Config) (time : ℕ) (calls : List Call) (k : ℕ) → InUse c k → WithoutRule c k →
+    (chosen : ℕ → Bool) → OnSum c (registerAt (c .registers) k .sum) chosen → Each (ExactlyOne c chosen) (since c (journalOf c time calls)) →
     total 16 (λ j. partOf (chosen j) (openOf c time j calls)) ≡ openOf c time k calls
+
+-- the same where no register without a tariff is on the sum: they add up to all units that the samples since the reset brought to it
+abbrev pub AmountsAreTheSums : Type 0
+AmountsAreTheSums =
+    (c : Config) (time : ℕ) (calls : List Call) (sum : ℕ) →
+    (chosen : ℕ → Bool) → OnSum c sum chosen → Each (ExactlyOne c chosen) (since c (journalOf c time calls)) →
+    total 16 (λ j. partOf (chosen j) (openOf c time j calls)) ≡ bookedIn always (getD (c .sums) sum 0) (since c (journalOf c time calls))
 
 -- For a reader who doubts the account's definitions
 
@@ -92,9 +100,9 @@ oldestOn on newer (e ∷ earlier) = oldestOn on (on (e .second)) earlier
 -- before the reset
 abbrev pub StretchesThatCount : Type 0
 StretchesThatCount =
-    (c : Config) (on : ℕ → Bool) (events : List Event)
-    → (older : List Sample) × (whole c events ≡ since c events ++ older)
-    × (stretchesOf on (whole c events) ≡ stretchesOf on (since c events) + endsOf on (oldestOn on false (since c events)) older)
+    (c : Config) (on : ℕ → Bool) (journal : List Entry)
+    → (older : List Sample) × (whole c journal ≡ since c journal ++ older)
+    × (stretchesOf on (whole c journal) ≡ stretchesOf on (since c journal) + endsOf on (oldestOn on false (since c journal)) older)
 
 -- the scale is a multiple of each feeding input's denominator: no energy is lost by the division in `energyOf`
 abbrev pub ScaleIsExact : Type 0
@@ -102,11 +110,27 @@ ScaleIsExact =
     (c : Config) → Accepted c → (j : ℕ) → InUse c j → (i : ℕ) → i < 16 → bitAt (feeding c j) i ≡ true
     → scaleOf c (feeding c j) / inputAt (c .inputs) i .denominator * inputAt (c .inputs) i .denominator ≡ scaleOf c (feeding c j)
 
+-- the run of input i counted on and on, and held nowhere
+abbrev pub runOnAndOn : Config → ℕ → List Entry → ℕ
+runOnAndOn c i [] = 0
+runOnAndOn c i (took bits second ∷ earlier) = if activeAt (c .inputs) bits i then suc (runOnAndOn c i earlier) else 0
+runOnAndOn c i (ended state stamp ∷ earlier) = runOnAndOn c i earlier
+runOnAndOn c i (cleared second ∷ earlier) = runOnAndOn c i earlier
+runOnAndOn c i (heard stamp meter value status seq ∷ earlier) = runOnAndOn c i earlier
+
+-- a run that is held at 256, above each longest run, is judged as the full run would be
+abbrev pub HoldIsHarmless : Type 0
+HoldIsHarmless =
+    (c : Config) → Accepted c → (bits : ℕ) (journal : List Entry) (i : ℕ) → i < 16 →
+    let run = runOnAndOn c i journal in
+    (endsRun c bits journal i && inRange c i (runOf c i journal)) ≡ ((not (activeAt (c .inputs) bits i) && ltb 0 run) && inRange c i run)
+
 -- The third demand, in one
 pub record Demand3 : Type 0 where
-  pub start-is-fresh : StartIsFresh
   pub open-amount : OpenAmount
   pub plain-bills : PlainBills
   pub amounts-add-up : AmountsAddUp
+  pub amounts-are-the-sums : AmountsAreTheSums
   pub stretches-that-count : StretchesThatCount
   pub scale-is-exact : ScaleIsExact
+  pub hold-is-harmless : HoldIsHarmless

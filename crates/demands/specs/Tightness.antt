@@ -1,6 +1,7 @@
--- "Every public function promises its result and the state and buffer after it for each input, refused ones too; that no second result fits is proved": one page for every public function of every crate.
+-- "Every public function promises its result and the state and buffer after it for each input, refused ones too; that no second result fits is proved": one entry for every public function of every crate.
 -- `Post` is the claim that the checker itself reads off a contract in the source, and `Asked` what a caller has to show before a call.
-use mathlib.Core.List.{[], _∷_}
+use mathlib.Core.List.{List, [], _∷_}
+use Prim.Native.Nat.{ℕ}
 use denote.Ref.{now}
 use Rattle.laws.specs.Unique.{OneResult, OneExit}
 use Rattle.calendar.proofs.is_leap.Reads as calendar-is-leap
@@ -59,153 +60,80 @@ use Rattle.host.proofs.recorder_age_class.Reads as host-recorder-age-class
 abbrev pub AsksNothing {ℓ} : {L : Type ℓ} {Args : L → Type 0} → ((κs : L) → Args κs → Type 0) → Type ℓ
 AsksNothing {L = L} {Args} asked = (κs : L) (args : Args κs) → asked κs args
 
--- the calendar: no second result fits, and for a lent buffer no second state of it
-pub record OneCalendar : Type 1 where
-  pub is-leap : OneResult calendar-is-leap.Post
-  pub month-length : OneResult calendar-month-length.Post
-  pub day-exists : OneResult calendar-day-exists.Post
-  pub exists-in-some-year : OneResult calendar-exists-in-some-year.Post
-  pub moment-of : OneResult calendar-moment-of.Post
+-- an entry: no second result fits, and nothing is asked
+abbrev pub Alone {ℓ} : {L : Type ℓ} {Args Result Exit : L → Type 0} → ((κs : L) → Args κs → Result κs → Exit κs → Type 0) → ((κs : L) → Args κs → Type 0) → Type ℓ
+Alone post asked = OneResult post × AsksNothing asked
 
--- the tariff program: no second result fits, and for a lent buffer no second state of it
-pub record OneTariff : Type 1 where
-  pub bit-at : OneResult tariff-bit-at.Post
-  pub daily-active : OneResult tariff-daily-active.Post
-  pub daily-map : OneResult tariff-daily-map.Post
-  pub holiday-on : OneResult tariff-holiday-on.Post
-  pub weekly-active : OneResult tariff-weekly-active.Post
-  pub weekly-map : OneResult tariff-weekly-map.Post
-  pub season-active : OneResult tariff-season-active.Post
-  pub in-force : OneResult tariff-in-force.Post
-  pub force-map : OneResult tariff-force-map.Post
-  pub force-map-at : OneResult tariff-force-map-at.Post
+-- of a function that changes what it is lent: no second state of that fits, and nothing is asked; `seen` reads it off the parameters at exit
+abbrev pub Lent {ℓ} : {L : Type ℓ} {Args Result Exit : L → Type 0} → ((κs : L) → Exit κs → List ℕ)
+    → ((κs : L) → Args κs → Result κs → Exit κs → Type 0) → ((κs : L) → Args κs → Type 0) → Type ℓ
+Lent seen post asked = OneExit seen post × AsksNothing asked
 
--- the configuration: no second result fits, and for a lent buffer no second state of it
-pub record OneSettings : Type 1 where
-  pub check-config : OneResult settings-check-config.Post
+-- of one that does so and has a result: neither has a second
+abbrev pub AloneAndLent {ℓ} : {L : Type ℓ} {Args Result Exit : L → Type 0} → ((κs : L) → Exit κs → List ℕ)
+    → ((κs : L) → Args κs → Result κs → Exit κs → Type 0) → ((κs : L) → Args κs → Type 0) → Type ℓ
+AloneAndLent seen post asked = OneResult post × Lent seen post asked
 
--- the configuration image: no second result fits, and for a lent buffer no second state of it
-pub record OneImage : Type 1 where
-  pub blank-config : OneResult image-blank-config.Post
-  pub read-image : OneResult image-read-image.Post
-  pub check-image : OneResult image-check-image.Post
-  pub write-image : OneResult image-write-image.Post
-  pub write-image-buffer : OneExit (λ κs e. now (e .1 .0)) image-write-image.Post
-  pub write-then-read : OneResult image-write-then-read.Post
-  pub read-then-write : OneResult image-read-then-write.Post
-  pub tester-line : OneResult image-tester-line.Post
-
--- lines, units, bills and levels: no second result fits, and for a lent buffer no second state of it
-pub record OneCounting : Type 1 where
-  pub advance-exit : OneExit (λ κs e. now (e .0) ∷ []) counting-advance.Post
-  pub kind-mask : OneResult counting-kind-mask.Post
-  pub running-lines : OneResult counting-running-lines.Post
-  pub settle : OneResult counting-settle.Post
-  pub some-units : OneResult counting-some-units.Post
-  pub sums-units : OneResult counting-sums-units.Post
-  pub fed-registers : OneResult counting-fed-registers.Post
-  pub book-amounts : OneResult counting-book-amounts.Post
-  pub amounts-of : OneResult counting-amounts-of.Post
-  pub put-amounts : OneResult counting-put-amounts.Post
-  pub level9 : OneResult counting-level9.Post
-
--- samples and periods: no second result fits, and for a lent buffer no second state of it
-pub record OneSampling : Type 1 where
-  pub take : OneResult sampling-take.Post
-  pub cleared : OneResult sampling-cleared.Post
-  pub close-period : OneResult sampling-close-period.Post
-
--- the recorder: no second result fits, and for a lent buffer no second state of it
-pub record OneRecorder : Type 1 where
-  pub start : OneResult recorder-start.Post
-  pub sample : OneResult recorder-sample.Post
-  pub samples : OneResult recorder-samples.Post
-  pub set-clock : OneResult recorder-set-clock.Post
-  pub reading : OneResult recorder-reading.Post
-  pub reset-bills : OneResult recorder-reset-bills.Post
-  pub age-class : OneResult recorder-age-class.Post
-  pub age-answer : OneResult recorder-age-answer.Post
-
--- the registers: no second result fits, and for a lent buffer no second state of it
-pub record OneRegisters : Type 1 where
-  pub read-register : OneResult registers-read-register.Post
-  pub read-register-buffer : OneExit (λ κs e. now (e .1 .1 .1 .0)) registers-read-register.Post
-  pub fleet-of : OneResult registers-fleet-of.Post
-
--- the lines of a text of calls: no second result fits, and for a lent buffer no second state of it
-pub record OneLines : Type 1 where
-  pub line-of : OneResult lines-line-of.Post
-
--- the C functions: no second result fits, and for a lent buffer no second state of it
-pub record OneHost : Type 1 where
-  pub recorder-image-check : OneResult host-recorder-image-check.Post
-  pub recorder-calendar : OneResult host-recorder-calendar.Post
-  pub recorder-age-class : OneResult host-recorder-age-class.Post
-
--- none of them has a precondition
-pub record NoPrecondition : Type 1 where
-  pub calendar-is-leap : AsksNothing calendar-is-leap.Asked
-  pub calendar-month-length : AsksNothing calendar-month-length.Asked
-  pub calendar-day-exists : AsksNothing calendar-day-exists.Asked
-  pub calendar-exists-in-some-year : AsksNothing calendar-exists-in-some-year.Asked
-  pub calendar-moment-of : AsksNothing calendar-moment-of.Asked
-  pub tariff-bit-at : AsksNothing tariff-bit-at.Asked
-  pub tariff-daily-active : AsksNothing tariff-daily-active.Asked
-  pub tariff-daily-map : AsksNothing tariff-daily-map.Asked
-  pub tariff-holiday-on : AsksNothing tariff-holiday-on.Asked
-  pub tariff-weekly-active : AsksNothing tariff-weekly-active.Asked
-  pub tariff-weekly-map : AsksNothing tariff-weekly-map.Asked
-  pub tariff-season-active : AsksNothing tariff-season-active.Asked
-  pub tariff-in-force : AsksNothing tariff-in-force.Asked
-  pub tariff-force-map : AsksNothing tariff-force-map.Asked
-  pub tariff-force-map-at : AsksNothing tariff-force-map-at.Asked
-  pub settings-check-config : AsksNothing settings-check-config.Asked
-  pub image-blank-config : AsksNothing image-blank-config.Asked
-  pub image-read-image : AsksNothing image-read-image.Asked
-  pub image-check-image : AsksNothing image-check-image.Asked
-  pub image-write-image : AsksNothing image-write-image.Asked
-  pub image-write-then-read : AsksNothing image-write-then-read.Asked
-  pub image-read-then-write : AsksNothing image-read-then-write.Asked
-  pub image-tester-line : AsksNothing image-tester-line.Asked
-  pub counting-advance : AsksNothing counting-advance.Asked
-  pub counting-kind-mask : AsksNothing counting-kind-mask.Asked
-  pub counting-running-lines : AsksNothing counting-running-lines.Asked
-  pub counting-settle : AsksNothing counting-settle.Asked
-  pub counting-some-units : AsksNothing counting-some-units.Asked
-  pub counting-sums-units : AsksNothing counting-sums-units.Asked
-  pub counting-fed-registers : AsksNothing counting-fed-registers.Asked
-  pub counting-book-amounts : AsksNothing counting-book-amounts.Asked
-  pub counting-amounts-of : AsksNothing counting-amounts-of.Asked
-  pub counting-put-amounts : AsksNothing counting-put-amounts.Asked
-  pub counting-level9 : AsksNothing counting-level9.Asked
-  pub sampling-take : AsksNothing sampling-take.Asked
-  pub sampling-cleared : AsksNothing sampling-cleared.Asked
-  pub sampling-close-period : AsksNothing sampling-close-period.Asked
-  pub recorder-start : AsksNothing recorder-start.Asked
-  pub recorder-sample : AsksNothing recorder-sample.Asked
-  pub recorder-samples : AsksNothing recorder-samples.Asked
-  pub recorder-set-clock : AsksNothing recorder-set-clock.Asked
-  pub recorder-reading : AsksNothing recorder-reading.Asked
-  pub recorder-reset-bills : AsksNothing recorder-reset-bills.Asked
-  pub recorder-age-class : AsksNothing recorder-age-class.Asked
-  pub recorder-age-answer : AsksNothing recorder-age-answer.Asked
-  pub registers-read-register : AsksNothing registers-read-register.Asked
-  pub registers-fleet-of : AsksNothing registers-fleet-of.Asked
-  pub lines-line-of : AsksNothing lines-line-of.Asked
-  pub host-recorder-image-check : AsksNothing host-recorder-image-check.Asked
-  pub host-recorder-calendar : AsksNothing host-recorder-calendar.Asked
-  pub host-recorder-age-class : AsksNothing host-recorder-age-class.Asked
-
--- all of it
+-- the list
 pub record Tight : Type 1 where
-  pub calendar : OneCalendar
-  pub tariff : OneTariff
-  pub settings : OneSettings
-  pub image : OneImage
-  pub counting : OneCounting
-  pub sampling : OneSampling
-  pub recorder : OneRecorder
-  pub registers : OneRegisters
-  pub lines : OneLines
-  pub host : OneHost
-  pub free : NoPrecondition
+  -- crate calendar
+  pub calendar-is-leap : Alone calendar-is-leap.Post calendar-is-leap.Asked
+  pub calendar-month-length : Alone calendar-month-length.Post calendar-month-length.Asked
+  pub calendar-day-exists : Alone calendar-day-exists.Post calendar-day-exists.Asked
+  pub calendar-exists-in-some-year : Alone calendar-exists-in-some-year.Post calendar-exists-in-some-year.Asked
+  pub calendar-moment-of : Alone calendar-moment-of.Post calendar-moment-of.Asked
+  -- crate tariff
+  pub tariff-bit-at : Alone tariff-bit-at.Post tariff-bit-at.Asked
+  pub tariff-daily-active : Alone tariff-daily-active.Post tariff-daily-active.Asked
+  pub tariff-daily-map : Alone tariff-daily-map.Post tariff-daily-map.Asked
+  pub tariff-holiday-on : Alone tariff-holiday-on.Post tariff-holiday-on.Asked
+  pub tariff-weekly-active : Alone tariff-weekly-active.Post tariff-weekly-active.Asked
+  pub tariff-weekly-map : Alone tariff-weekly-map.Post tariff-weekly-map.Asked
+  pub tariff-season-active : Alone tariff-season-active.Post tariff-season-active.Asked
+  pub tariff-in-force : Alone tariff-in-force.Post tariff-in-force.Asked
+  pub tariff-force-map : Alone tariff-force-map.Post tariff-force-map.Asked
+  pub tariff-force-map-at : Alone tariff-force-map-at.Post tariff-force-map-at.Asked
+  -- crate settings
+  pub settings-check-config : Alone settings-check-config.Post settings-check-config.Asked
+  -- crate image
+  pub image-blank-config : Alone image-blank-config.Post image-blank-config.Asked
+  pub image-read-image : Alone image-read-image.Post image-read-image.Asked
+  pub image-check-image : Alone image-check-image.Post image-check-image.Asked
+  pub image-write-image : AloneAndLent (λ κs e. now (e .1 .0)) image-write-image.Post image-write-image.Asked
+  pub image-write-then-read : Alone image-write-then-read.Post image-write-then-read.Asked
+  pub image-read-then-write : Alone image-read-then-write.Post image-read-then-write.Asked
+  pub image-tester-line : Alone image-tester-line.Post image-tester-line.Asked
+  -- crate counting
+  pub counting-advance : Lent (λ κs e. now (e .0) ∷ []) counting-advance.Post counting-advance.Asked
+  pub counting-kind-mask : Alone counting-kind-mask.Post counting-kind-mask.Asked
+  pub counting-running-lines : Alone counting-running-lines.Post counting-running-lines.Asked
+  pub counting-settle : Alone counting-settle.Post counting-settle.Asked
+  pub counting-some-units : Alone counting-some-units.Post counting-some-units.Asked
+  pub counting-sums-units : Alone counting-sums-units.Post counting-sums-units.Asked
+  pub counting-fed-registers : Alone counting-fed-registers.Post counting-fed-registers.Asked
+  pub counting-book-amounts : Alone counting-book-amounts.Post counting-book-amounts.Asked
+  pub counting-amounts-of : Alone counting-amounts-of.Post counting-amounts-of.Asked
+  pub counting-put-amounts : Alone counting-put-amounts.Post counting-put-amounts.Asked
+  pub counting-level9 : Alone counting-level9.Post counting-level9.Asked
+  -- crate sampling
+  pub sampling-take : Alone sampling-take.Post sampling-take.Asked
+  pub sampling-cleared : Alone sampling-cleared.Post sampling-cleared.Asked
+  pub sampling-close-period : Alone sampling-close-period.Post sampling-close-period.Asked
+  -- crate recorder
+  pub recorder-start : Alone recorder-start.Post recorder-start.Asked
+  pub recorder-sample : Alone recorder-sample.Post recorder-sample.Asked
+  pub recorder-samples : Alone recorder-samples.Post recorder-samples.Asked
+  pub recorder-set-clock : Alone recorder-set-clock.Post recorder-set-clock.Asked
+  pub recorder-reading : Alone recorder-reading.Post recorder-reading.Asked
+  pub recorder-reset-bills : Alone recorder-reset-bills.Post recorder-reset-bills.Asked
+  pub recorder-age-class : Alone recorder-age-class.Post recorder-age-class.Asked
+  pub recorder-age-answer : Alone recorder-age-answer.Post recorder-age-answer.Asked
+  -- crate registers
+  pub registers-read-register : AloneAndLent (λ κs e. now (e .1 .1 .1 .0)) registers-read-register.Post registers-read-register.Asked
+  pub registers-fleet-of : Alone registers-fleet-of.Post registers-fleet-of.Asked
+  -- crate lines
+  pub lines-line-of : Alone lines-line-of.Post lines-line-of.Asked
+  -- crate host
+  pub host-recorder-image-check : Alone host-recorder-image-check.Post host-recorder-image-check.Asked
+  pub host-recorder-calendar : Alone host-recorder-calendar.Post host-recorder-calendar.Asked
+  pub host-recorder-age-class : Alone host-recorder-age-class.Post host-recorder-age-class.Asked

@@ -1,0 +1,427 @@
+-- The recorder and the account agree after any calls, under any configuration: clock, runs, rejected impulses, remainders, bills and meters, and the number of each answer.
+use mathlib.Core.Path.{_≡_, refl, sym, ap, ap₂, subst, _∙_}
+use mathlib.Core.Bool.{Bool, true, false, not, _&&_, _||_}
+use mathlib.Core.List.{List, [], _∷_}
+use mathlib.Core.Logic.{_⊎_, inl, inr, ⊎-elim}
+use Prim.Native.Nat.{ℕ, _+_, _<_, min}
+use native.Mathlib.Nat.{zero-mul, zero-mod}
+use native.Mathlib.Omega.{arith}
+use lib.Dec.{ltb, leb, eqb}
+use lib.IntN.{ℤ}
+use lib.ListN.{length, getD, set as setList, length-set, length-replicate, getD-replicate}
+use lib.Seq.{getD-set-same, getD-set-other}
+use borrow.Author.Tests.{lt-ltb, ltb-true, ltb-false, leb-true, leb-false, eq-eqb, ne-eqb, eqb-true, eqb-false}
+use Rattle.laws.specs.If.{if_then_else_}
+use Rattle.laws.specs.Tests.{by-test}
+use Rattle.laws.specs.Any.{any, any-cong}
+use Rattle.laws.specs.Total.{total-cong}
+use Rattle.laws.specs.Masks.{bit, bitAt}
+use Rattle.laws.specs.Tables.{table, table-at}
+use Rattle.laws.specs.Answers.{Answer, given, refused}
+use Rattle.calendar.specs.Moments.{momentOf}
+use Rattle.calendar.specs.declared.Moment.{Moment}
+use Rattle.settings.specs.declared.Config.{Config}
+use Rattle.settings.specs.declared.Input.{Input}
+use Rattle.counting.specs.Filter.{inputAt, lineAt, nextRun, accepted, filtered, oneMore, ends, fitting}
+use Rattle.counting.specs.Units.{unitsOf, remainderOf, credited, creditIf}
+use Rattle.counting.specs.Bills.{billAt, partOf, namedPart, sumOf, fills, fillsAt, bookedOf, withAmount}
+use Rattle.sampling.specs.Periods.{multiple, cleared, tickOf}
+use Rattle.sampling.specs.Samples.{activeAt, bookingOf, bookingOn, countedOf, clockEnd, sampleOf}
+use Rattle.recorder.specs.Clock.{setTo, setOf, closedBill, closedBillAt, resetOf}
+use Rattle.recorder.specs.Meters.{readingOf}
+use Rattle.recorder.specs.Calls.{freshState, replyTo}
+use Rattle.recorder.specs.History.{Call, sample, set as set-call, reading, reset, afterAll}
+use Rattle.registers.specs.Fleet.{meterAt}
+use Rattle.counting.specs.declared.Line.{Line}
+use Rattle.counting.specs.declared.Bill.{Bill}
+use Rattle.sampling.specs.declared.Meter.{Meter}
+use Rattle.sampling.specs.declared.State.{State}
+use Rattle.calendar.proofs.Moments.{dated-or-not}
+use Rattle.recorder.proofs.Sound.{config-stays, reached-is-sound}
+use Rattle.demands.specs.Account.{Entry, took, ended, cleared as cleared-entry, heard, Sample, Time, Account, runOf, endsRun, inRange, sampleOn, always, impulsesOf, rejectedIn, whole, inUse, booksAt, feeding, amountOf, lastReset, lastReading, nextSample, dueTo, overfull, sampleNumber, dateNumber, readingNumber, answerOf, stepped, counted, entered, withCall, accountOf}
+use Rattle.demands.specs.State.{billOf, meterOf}
+use Rattle.demands.specs.Demand2.{reached, numberOf, AnswersOfHistory}
+use Rattle.demands.proofs.Units.{leftOver, units-step, left-step}
+use Rattle.demands.proofs.Keeps.{bringsAt, broughtAt, getsAt, bookedState, due, due-is, due-none, fillsOn, line-after, bill-after, cleared-line}
+
+-- a line has the run, the rejected impulses and the remainder of its input's journal
+pub record LineAgrees (c : Config) (journal : List Entry) (i : ℕ) (line : Line) : Type 0 where
+  pub run : line .run ≡ runOf c i journal
+  pub rejected : line .rejected ≡ min 65_535 (rejectedIn i (whole c journal))
+  pub remainder : line .remainder ≡ leftOver (inputAt (c .inputs) i) (impulsesOf always i (whole c journal))
+
+-- a state and an account agree
+pub record Agrees (c : Config) (s : State) (a : Account) : Type 0 where
+  pub clock : s .clock ≡ a .time .second
+  pub samples : s .samples ≡ a .time .samples
+  pub few : s .samples < 100
+  pub first : s .first ≡ a .time .first
+  pub lines : (i : ℕ) → i < 16 → LineAgrees c (a .journal) i (lineAt (s .lines) i)
+  pub bills : (j : ℕ) → j < 16 → billAt (s .bills) j ≡ billOf c (a .journal) j
+  pub meters : (i : ℕ) → i < 32 → meterAt (s .meters) i ≡ meterOf (lastReading (a .journal) i)
+  pub all-meters : length (s .meters) ≡ 32
+
+-- Lines
+
+next-run : (run : ℕ) (on : Bool) → nextRun run on ≡ (if on then min 256 (run + 1) else 0)
+next-run run true = by-test (ltb run 256) (λ t. rw t (omega (arith, ltb-true run 256 t))) (λ f. rw f (omega (arith, ltb-false run 256 f)))
+next-run run false = refl
+
+next-rejected : (n : ℕ) (on : Bool) → oneMore (min 65_535 n) on ≡ min 65_535 (n + bit on)
+next-rejected n true =
+    by-test (ltb (min 65_535 n) 65_535) (λ t. rw t (omega (arith, ltb-true (min 65_535 n) 65_535 t))) (λ f. rw f (omega (arith, ltb-false (min 65_535 n) 65_535 f)))
+next-rejected n false = omega arith
+
+-- an impulse leaves run and rejected count
+credit-run : (x : Input) (line : Line) (on : Bool) → creditIf x line on .run ≡ line .run
+unfolding creditIf credited
+credit-run x line true = refl
+credit-run x line false = refl
+
+credit-rejected : (x : Input) (line : Line) (on : Bool) → creditIf x line on .rejected ≡ line .rejected
+unfolding creditIf credited
+credit-rejected x line true = refl
+credit-rejected x line false = refl
+
+credit-remainder : (x : Input) (line : Line) (on : Bool) → creditIf x line on .remainder ≡ (if on then remainderOf x (line .remainder) else line .remainder)
+unfolding creditIf credited
+credit-remainder x line true = refl
+credit-remainder x line false = refl
+
+-- a sample after a journal
+module _ (c : Config) (journal : List Entry) (bits second i : ℕ) (line : Line) (old : LineAgrees c journal i line) where
+  -- the recorder accepts the account's impulses
+  pub same-impulse : accepted (inputAt (c .inputs) i) line (activeAt (c .inputs) bits i) ≡ (endsRun c bits journal i && inRange c i (runOf c i journal))
+  unfolding accepted
+  same-impulse = rw (old .run)
+
+  -- and each of them brings the account's units
+  pub same-units : (if accepted (inputAt (c .inputs) i) line (activeAt (c .inputs) bits i) then unitsOf (inputAt (c .inputs) i) (line .remainder) else 0)
+      ≡ sampleOn c bits second journal (whole c journal) .units i
+  same-units = rw (same-impulse, old .remainder) (units-step (inputAt (c .inputs) i) (impulsesOf always i (whole c journal)) (endsRun c bits journal i && inRange c i (runOf c i journal)))
+
+  line-agrees : let x = inputAt (c .inputs) i in let on = activeAt (c .inputs) bits i in
+      LineAgrees c (took bits second ∷ journal) i (creditIf x (filtered x line on) (accepted x line on))
+  unfolding filtered
+  line-agrees =
+      let x = inputAt (c .inputs) i in
+      let on = activeAt (c .inputs) bits i in
+      record {
+        run = credit-run x (filtered x line on) (accepted x line on) ∙ (next-run (line .run) on ∙ ap (λ (n : ℕ). if on then min 256 (n + 1) else 0) (old .run));
+        rejected = credit-rejected x (filtered x line on) (accepted x line on) ∙ rw (old .rejected, old .run) (next-rejected (rejectedIn i (whole c journal)) (endsRun c bits journal i && not (inRange c i (runOf c i journal))));
+        remainder = credit-remainder x (filtered x line on) (accepted x line on)
+            ∙ rw (same-impulse, old .remainder) (left-step x (impulsesOf always i (whole c journal)) (endsRun c bits journal i && inRange c i (runOf c i journal)));
+      }
+
+-- A sample
+
+-- the journal with a sample
+abbrev pub longer : Account → ℕ → List Entry
+longer a bits = took bits (a .time .second) ∷ a .journal
+
+module _ (c : Config) (s : State) (a : Account) (bits : ℕ) (old : Agrees c s a) where
+  -- the sample that the account sees
+  abbrev now : Sample
+  now = nextSample c a bits
+
+  -- register j gets the account's units
+  due-same : (j : ℕ) → inUse c j ≡ true → due c s bits j ≡ dueTo c j now
+  unfolding sumOf namedPart
+  due-same j u =
+      due-is c s bits j u
+      ∙ ap₂ (λ (second units : ℕ). if booksAt c j second then units else 0) (old .clock)
+      (total-cong 16 _ _ (λ i l. ap (partOf (bitAt (feeding c j) i)) (same-units c (a .journal) bits (a .time .second) i (lineAt (s .lines) i) (old .lines i l))))
+
+  -- its open amount is the account's
+  amount-same : (j : ℕ) → j < 16 → inUse c j ≡ true → billAt (s .bills) j .amount ≡ amountOf c j (a .journal)
+  unfolding billOf
+  amount-same j l u = ap (λ (b : Bill). b .amount) (old .bills j l) ∙ rw u
+
+  fills-same : (j : ℕ) → j < 16 → fillsOn c s bits j ≡ overfull c (a .journal) now j
+  unfolding fillsAt fills overfull
+  fills-same j l =
+      by-test (inUse c j)
+      (λ u. ap₂ (λ (amount n : ℕ). ltb 0 n && ltb 999_999_999 (amount + n)) (amount-same j l u) (due-same j u) ∙ sym (rw u))
+      (λ f. rw (due-none c s bits j f, f))
+
+  full-same : bookingOn c s bits .full ≡ any 16 (overfull c (a .journal) now)
+  unfolding bookingOf bookedOf
+  full-same = any-cong 16 (fillsOn c s bits) (overfull c (a .journal) now) fills-same
+
+  end-same : clockEnd s ≡ (eqb (a .time .second) 4_294_967_295 && eqb (a .time .samples) 99)
+  end-same =
+      ap₂ _&&_ (ap (λ (n : ℕ). eqb n 4_294_967_295) (old .clock))
+      (by-test (leb 99 (s .samples))
+      (λ t. t ∙ sym (eq-eqb (a .time .samples) 99 (omega (arith, leb-true 99 (s .samples) t, old .samples, old .few))))
+      (λ f. f ∙ sym (ne-eqb (a .time .samples) 99 (λ e. omega (arith, leb-false 99 (s .samples) f, old .samples)))))
+
+  -- bill j with its units
+  bill-agrees : (j : ℕ) → j < 16 → bookingOn c s bits .full ≡ false → billAt (bookingOn c s bits .bills) j ≡ billOf c (longer a bits) j
+  unfolding billOf amountOf
+  bill-agrees j l e =
+      bill-after c s bits j l e
+      ∙ by-test (inUse c j)
+      (λ u. rw (due-same j u, old .bills j l, u))
+      (λ f. rw (due-none c s bits j f, old .bills j l, f))
+
+  -- the booked state agrees with the longer journal
+  pub booked-agrees : bookingOn c s bits .full ≡ false → Agrees c (bookedState c s bits) (record { time = a .time; journal = longer a bits })
+  booked-agrees e =
+      record {
+        clock = old .clock;
+        samples = old .samples;
+        few = old .few;
+        first = old .first;
+        lines = λ i l.
+            rw (line-after c s bits i l) (line-agrees c (a .journal) bits (a .time .second) i (lineAt (s .lines) i) (old .lines i l));
+        bills = λ j l. bill-agrees j l e;
+        meters = old .meters;
+        all-meters = old .all-meters;
+      }
+
+-- Counting the sample
+
+-- a line at the start of a period has the same run, count and remainder
+cleared-agrees : (c : Config) (journal : List Entry) (state stamp i : ℕ) (line : Line) → LineAgrees c journal i line → LineAgrees c (ended state stamp ∷ journal) i (cleared line)
+unfolding cleared
+cleared-agrees c journal state stamp i line old = record { run = old .run; rejected = old .rejected; remainder = old .remainder }
+
+-- the end of a period moves no bill
+ended-bill : (c : Config) (journal : List Entry) (state stamp j : ℕ) → billOf c (ended state stamp ∷ journal) j ≡ billOf c journal j
+unfolding billOf amountOf
+ended-bill c journal state stamp j = refl
+
+-- the hundredth sample
+pub hundredth : (c : Config) (s : State) (a : Account) → Agrees c s a → leb 99 (s .samples) ≡ eqb (a .time .samples) 99
+hundredth c s a old =
+    by-test (leb 99 (s .samples))
+    (λ t. t ∙ sym (eq-eqb (a .time .samples) 99 (omega (arith, leb-true 99 (s .samples) t, old .samples, old .few))))
+    (λ f. f ∙ sym (ne-eqb (a .time .samples) 99 (λ e. omega (arith, leb-false 99 (s .samples) f, old .samples))))
+
+tick-agrees : (c : Config) (s : State) (a : Account) → Agrees c s a → Agrees c (tickOf c s) (stepped c (a .time) (a .journal))
+unfolding tickOf stepped
+tick-agrees c s a old =
+    by-test (multiple (c .period) (a .time .second + 1))
+    (λ t.
+    rw (old .clock, t)
+    (record {
+      clock = refl;
+      samples = refl;
+      few = omega arith;
+      first = refl;
+      lines = λ i l. rw (cleared-line (s .lines) i l) (cleared-agrees c (a .journal) _ (a .time .second + 1) i (lineAt (s .lines) i) (old .lines i l));
+      bills = λ j l. old .bills j l ∙ sym (ended-bill c (a .journal) _ (a .time .second + 1) j);
+      meters = old .meters;
+      all-meters = old .all-meters;
+    }))
+    (λ f.
+    rw (old .clock, f)
+    (record {
+      clock = refl;
+      samples = refl;
+      few = omega arith;
+      first = old .first;
+      lines = old .lines;
+      bills = old .bills;
+      meters = old .meters;
+      all-meters = old .all-meters;
+    }))
+
+pub counted-agrees : (c : Config) (s : State) (a : Account) → Agrees c s a → Agrees c (countedOf c s) (counted c (a .time) (a .journal))
+unfolding countedOf counted
+counted-agrees c s a old =
+    by-test (leb 99 (s .samples))
+    (λ t. rw (t, sym (hundredth c s a old) ∙ t) (tick-agrees c s a old))
+    (λ f.
+    rw (f, sym (hundredth c s a old) ∙ f)
+    (record {
+      clock = old .clock;
+      samples = ap (λ (n : ℕ). n + 1) (old .samples);
+      few = omega (arith, leb-false 99 (s .samples) f);
+      first = old .first;
+      lines = old .lines;
+      bills = old .bills;
+      meters = old .meters;
+      all-meters = old .all-meters;
+    }))
+
+-- a sample is refused and changes neither, or booked by both
+abbrev pub SampleCase : Config → State → Account → ℕ → State → Account → Type 0
+SampleCase c s a bits s′ a′ =
+    ((s′ ≡ s) × (a′ ≡ a))
+    ⊎ ((bookingOn c s bits .full ≡ false) × (s′ ≡ countedOf c (bookedState c s bits)) × (a′ ≡ counted c (a .time) (longer a bits)))
+
+pub sample-case : (c : Config) (s : State) (a : Account) (bits : ℕ) → Agrees c s a
+    → (replyTo s (sampleOf c s bits) .number ≡ sampleNumber c a bits) × SampleCase c s a bits (replyTo s (sampleOf c s bits) .state) (withCall c a (sample bits))
+unfolding sampleOf sampleNumber withCall
+sample-case c s a bits old =
+    by-test (clockEnd s)
+    (λ t. rw (t, sym (end-same c s a bits old) ∙ t) (refl, inl (refl, refl)))
+    (λ f.
+    let g = sym (end-same c s a bits old) ∙ f in
+    by-test (bookingOn c s bits .full)
+    (λ t. rw (f, g, t, sym (full-same c s a bits old) ∙ t) (refl, inl (refl, refl)))
+    (λ h. rw (f, g, h, sym (full-same c s a bits old) ∙ h) (refl, inr (refl, refl, refl))))
+
+-- so they agree after it
+pub sample-agrees : (c : Config) (s : State) (a : Account) (bits : ℕ) → Agrees c s a → Agrees c (replyTo s (sampleOf c s bits) .state) (withCall c a (sample bits))
+sample-agrees c s a bits old =
+    ⊎-elim (λ e. rw (e .0, e .1) old)
+    (λ e. rw (e .1, e .2) (counted-agrees c (bookedState c s bits) (record { time = a .time; journal = longer a bits }) (booked-agrees c s a bits old (e .0))))
+    (sample-case c s a bits old .1)
+
+-- A clock set
+
+pub set-number : (c : Config) (s : State) (seconds : ℕ) → replyTo s (setOf c s seconds) .number ≡ dateNumber (momentOf seconds)
+unfolding setOf
+set-number c s seconds = ⊎-elim (λ d. rw (d .1)) (λ e. rw e) (dated-or-not seconds)
+
+pub set-agrees : (c : Config) (s : State) (a : Account) (seconds : ℕ) → Agrees c s a → Agrees c (replyTo s (setOf c s seconds) .state) (withCall c a (set-call seconds))
+unfolding setOf setTo withCall
+set-agrees c s a seconds old =
+    ⊎-elim
+    (λ d.
+    rw (d .1)
+    (record {
+      clock = refl;
+      samples = refl;
+      few = omega arith;
+      first = refl;
+      lines = λ i l. rw (cleared-line (s .lines) i l) (cleared-agrees c (a .journal) 1 (a .time .second) i (lineAt (s .lines) i) (old .lines i l));
+      bills = λ j l. old .bills j l ∙ sym (ended-bill c (a .journal) 1 (a .time .second) j);
+      meters = old .meters;
+      all-meters = old .all-meters;
+    }))
+    (λ e. rw e old)
+    (dated-or-not seconds)
+
+-- A reading
+
+pub reading-number : (c : Config) (s : State) (meter : ℕ) (v : ℤ) (status seq : ℕ) → replyTo s (readingOf c s meter v status seq) .number ≡ readingNumber c meter status seq
+unfolding readingOf readingNumber
+reading-number c s meter v status seq =
+    by-test (ltb 31 meter) (λ t. rw t)
+    (λ f.
+    by-test (eqb (getD (c .limits) meter 0) 0) (λ t. rw (f, t))
+    (λ g. by-test (ltb 7 status || ltb 31 seq) (λ t. rw (f, g, t)) (λ h. rw (f, g, h))))
+
+-- the meters with a reading
+heard-meter : (c : Config) (s : State) (a : Account) (meter : ℕ) (v : ℤ) (status seq i : ℕ) → Agrees c s a → meter < 32 → i < 32
+    → meterAt (setList (s .meters) meter (record { read = true; stamp = s .clock; value = v; status = status; seq = seq })) i
+    ≡ meterOf (lastReading (heard (a .time .second) meter v status seq ∷ a .journal) i)
+heard-meter c s a meter v status seq i old m l =
+    by-test (eqb meter i)
+    (λ t.
+    let there : meter < length (s .meters) = omega (arith, old .all-meters) in
+    rw (t, ← eqb-true meter i t, ← old .clock) (getD-set-same (s .meters) meter _ _ there))
+    (λ f. rw f (getD-set-other (s .meters) meter i _ _ (λ e. eqb-false meter i f (sym e)) ∙ old .meters i l))
+
+heard-bill : (c : Config) (journal : List Entry) (stamp meter : ℕ) (v : ℤ) (status seq j : ℕ) → billOf c (heard stamp meter v status seq ∷ journal) j ≡ billOf c journal j
+unfolding billOf amountOf
+heard-bill c journal stamp meter v status seq j = refl
+
+pub reading-agrees : (c : Config) (s : State) (a : Account) (meter : ℕ) (v : ℤ) (status seq : ℕ) → Agrees c s a
+    → Agrees c (replyTo s (readingOf c s meter v status seq) .state) (withCall c a (reading meter v status seq))
+unfolding readingOf readingNumber withCall
+reading-agrees c s a meter v status seq old =
+    by-test (ltb 31 meter) (λ t. rw t old)
+    (λ f.
+    by-test (eqb (getD (c .limits) meter 0) 0) (λ t. rw (f, t) old)
+    (λ g.
+    by-test (ltb 7 status || ltb 31 seq) (λ t. rw (f, g, t) old)
+    (λ h.
+    rw (f, g, h)
+    (record {
+      clock = old .clock;
+      samples = old .samples;
+      few = old .few;
+      first = old .first;
+      lines = λ i l. record { run = old .lines i l .run; rejected = old .lines i l .rejected; remainder = old .lines i l .remainder };
+      bills = λ j l. old .bills j l ∙ sym (heard-bill c (a .journal) (a .time .second) meter v status seq j);
+      meters = λ i l. heard-meter c s a meter v status seq i old (omega (arith, ltb-false 31 meter f)) l;
+      all-meters = length-set (s .meters) meter _ ∙ old .all-meters;
+    }))))
+
+-- A billing reset
+
+reset-bill : (c : Config) (s : State) (a : Account) (j : ℕ) → Agrees c s a → j < 16
+    → billAt (table 16 (closedBillAt (c .registers) (s .bills) (s .clock))) j ≡ billOf c (cleared-entry (a .time .second) ∷ a .journal) j
+unfolding closedBillAt closedBill billOf amountOf
+reset-bill c s a j old l =
+    table-at 16 (closedBillAt (c .registers) (s .bills) (s .clock)) j _ l
+    ∙ by-test (inUse c j) (λ u. rw (u, old .bills j l, u, old .clock)) (λ f. rw (f, old .bills j l, f))
+
+pub reset-agrees : (c : Config) (s : State) (a : Account) → Agrees c s a → Agrees c (resetOf c s) (withCall c a reset)
+unfolding resetOf withCall
+reset-agrees c s a old =
+    record {
+      clock = old .clock;
+      samples = old .samples;
+      few = old .few;
+      first = old .first;
+      lines = λ i l. record { run = old .lines i l .run; rejected = old .lines i l .rejected; remainder = old .lines i l .remainder };
+      bills = λ j l. reset-bill c s a j old l;
+      meters = old .meters;
+      all-meters = old .all-meters;
+    }
+
+-- A fresh start
+
+fresh-remainder : (x : Input) → 0 ≡ leftOver x 0
+fresh-remainder x = by-test (eqb (x .denominator) 0) (λ t. rw t) (λ f. rw (f, zero-mul, zero-mod))
+
+fresh-bill : (c : Config) (j : ℕ) → record { amount = 0; closed = 0; stamp = 0; reset = false } ≡ billOf c [] j
+unfolding billOf amountOf
+fresh-bill c j = by-test (inUse c j) (λ u. rw u) (λ f. rw f)
+
+fresh-agrees : (c : Config) (time : ℕ) → Agrees c (freshState time) (accountOf c time [])
+unfolding freshState accountOf
+fresh-agrees c time =
+    record {
+      clock = refl;
+      samples = refl;
+      few = omega arith;
+      first = refl;
+      lines = λ i l. rw (getD-replicate 16 i _ _ l) (record { run = refl; rejected = omega arith; remainder = fresh-remainder (inputAt (c .inputs) i) });
+      bills = λ j l. getD-replicate 16 j _ _ l ∙ fresh-bill c j;
+      meters = λ i l. getD-replicate 32 i _ _ l;
+      all-meters = simp length-replicate;
+    }
+
+-- All calls
+
+pub agrees : (c : Config) (time : ℕ) (calls : List Call) → Agrees c (reached c time calls .state) (accountOf c time calls)
+unfolding afterAll accountOf
+agrees c time [] = fresh-agrees c time
+agrees c time (sample bits ∷ earlier) =
+    let r = reached c time earlier in
+    let a = accountOf c time earlier in
+    subst (λ (k : Config). Agrees c (replyTo (r .state) (sampleOf k (r .state) bits) .state) (withCall c a (sample bits))) (sym (config-stays c time earlier))
+    (sample-agrees c (r .state) a bits (agrees c time earlier))
+agrees c time (set-call seconds ∷ earlier) =
+    let r = reached c time earlier in
+    let a = accountOf c time earlier in
+    subst (λ (k : Config). Agrees c (replyTo (r .state) (setOf k (r .state) seconds) .state) (withCall c a (set-call seconds))) (sym (config-stays c time earlier))
+    (set-agrees c (r .state) a seconds (agrees c time earlier))
+agrees c time (reading meter v status seq ∷ earlier) =
+    let r = reached c time earlier in
+    let a = accountOf c time earlier in
+    subst (λ (k : Config). Agrees c (replyTo (r .state) (readingOf k (r .state) meter v status seq) .state) (withCall c a (reading meter v status seq))) (sym (config-stays c time earlier))
+    (reading-agrees c (r .state) a meter v status seq (agrees c time earlier))
+agrees c time (reset ∷ earlier) =
+    let r = reached c time earlier in
+    let a = accountOf c time earlier in
+    subst (λ (k : Config). Agrees c (resetOf k (r .state)) (withCall c a reset)) (sym (config-stays c time earlier))
+    (reset-agrees c (r .state) a (agrees c time earlier))
+
+pub answers-of-history : AnswersOfHistory
+answers-of-history c time calls (sample bits) =
+    let s = reached c time calls .state in
+    subst (λ (k : Config). replyTo s (sampleOf k s bits) .number ≡ sampleNumber c (accountOf c time calls) bits) (sym (config-stays c time calls))
+    (sample-case c s (accountOf c time calls) bits (agrees c time calls) .0)
+answers-of-history c time calls (set-call seconds) = set-number (reached c time calls .config) (reached c time calls .state) seconds
+answers-of-history c time calls (reading meter v status seq) =
+    let s = reached c time calls .state in
+    subst (λ (k : Config). replyTo s (readingOf k s meter v status seq) .number ≡ readingNumber c meter status seq) (sym (config-stays c time calls))
+    (reading-number c s meter v status seq)
+answers-of-history c time calls reset = refl

@@ -28,7 +28,7 @@ use Rattle.counting.specs.declared.Bill.{Bill}
 use Rattle.registers.specs.Fleet.{meterAt, meterClass, classAt, hasClass, hasAny, awakeValue, awakeSum, classesOf, fleetOf}
 use Rattle.registers.specs.Contents.{statusShown, serialBytes, meterBytes, mapBytes, resultBytes, dailyBytes, weeklyBytes, level9Bytes, slotBytes, billBytes, inputBytes, fleetBytes, clockBytes}
 use Rattle.registers.specs.Registers.{Group, groups, lookUp, groupOf, registersIn, registersOf, contentsOf, replyOf, registerReply}
-use Rattle.registers.proofs.Laws.{given-first, invalid-mark as by-class, awake-unmarked as unmarked-by-class}
+use Rattle.registers.proofs.Laws.{given-first, marked-by-class, unmarked-by-class}
 use Rattle.demands.specs.Account.{Entry, took, ended, cleared, heard, Account, Reading, lastReading, lastReset, inUse, amountOf, accountOf}
 use Rattle.demands.specs.State.{lineOf, billOf, meterOf, lastPeriod, stateOf}
 use Rattle.demands.specs.Shown.{isNever, isStale, isInvalid, isAwake, awakeIn, fleetIn, serialShown, billShown, shown}
@@ -60,7 +60,7 @@ pub invalid-mark : InvalidMark
 unfolding classAt
 invalid-mark r meter buffer n e dead =
     let m = meterAt (r .state .meters) meter in
-    by-class r meter buffer n e
+    marked-by-class r meter buffer n e
     (λ zero. true≢false (sym (ap (λ (k : ℕ). eqb k 0) zero) ∙ (classes (getD (r .config .limits) meter 0) m (r .state .clock) .awake ∙ dead)))
 
 pub awake-unmarked : AwakeUnmarked

@@ -1,4 +1,4 @@
-// The configuration: typed, checked by one rule, read from an image and written to one.
+// The configuration read from an image and written to one. Its types, the rule of each entry and the check are those of crate settings, passed on.
 mod le;
 mod letters;
 mod read;

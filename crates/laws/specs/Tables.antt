@@ -75,10 +75,3 @@ module _ {A : Type 0} where
   -- after the last turn
   pub fill-done : (f : ℕ → A) (n i : ℕ) (xs₀ xs : List A) → xs ≡ fillTo f i xs₀ → i ≤ n → n ≤ i → length xs₀ ≡ n → xs ≡ table n f
   fill-done f n i xs₀ xs e a b h = rw (e, le-antisymm a b) (fill-all f n xs₀ h)
-
-  -- half way through a loop the list is as long as before
-  pub length-fill : (f : ℕ → A) (n : ℕ) (xs : List A) → length (fillTo f n xs) ≡ length xs
-  unfolding fillTo
-  length-fill f zero xs = refl
-  length-fill f (suc n) [] = refl
-  length-fill f (suc n) (x ∷ xs) = ap suc (length-fill (λ i. f (suc i)) n xs)

@@ -19,7 +19,7 @@ use Rattle.sampling.specs.declared.Meter.{Meter}
 use Rattle.registers.specs.Contents.{statusShown, serialBytes, meterBytes, mapBytes, resultBytes, dailyBytes, weeklyBytes, level9Bytes, slotBytes, billBytes, inputBytes, fleetBytes, clockBytes}
 use Rattle.registers.specs.Fleet.{meterAt, meterClass, classAt}
 use Rattle.registers.specs.Registers.{Group, groups, lookUp, groupOf, heldBy, Reply, refusal, reading, replyOf, registerReply}
-use Rattle.registers.specs.Laws.{BytesAsTable, RefusedLeaves, GivenFirst, InvalidMark, AwakeUnmarked}
+use Rattle.registers.specs.Laws.{BytesAsTable, RefusedLeaves, GivenFirst, MarkedByClass, UnmarkedByClass}
 use Rattle.registers.proofs.Groups.{each-found, is-given, the}
 
 serial-long : (m : Meter) (class : ℕ) → length (serialBytes m class) ≡ 10
@@ -103,9 +103,9 @@ serial-mark : (m : Meter) (class : ℕ) (rest : List ℕ) → (class ≡ 0 → �
 unfolding bytesOf statusShown serialBytes
 serial-mark m class rest h = by-test (eqb class 3) (λ e. rw e) (λ e. rw (e, ne-eqb class 0 h) (omega arith))
 
-pub invalid-mark : InvalidMark
+pub marked-by-class : MarkedByClass
 unfolding lookUp groups meterBytes
-invalid-mark r meter buffer n e h =
+marked-by-class r meter buffer n e h =
     let read = given-first r 82 meter buffer n e in
     rw (read .2) (serial-mark (meterAt (r .state .meters) meter) (classAt (r .config .limits) (r .state .meters) (r .state .clock) meter) (drop n buffer) h)
 
@@ -121,9 +121,9 @@ awake-even limit m clock =
     if-cases P (ltb (m .stamp + limit) clock) (λ c e. absurd (omega arith))
     (λ c. if-cases P (eqb (m .status % 2) 1) (λ d e. absurd (omega arith)) (λ d e. omega (arith, eqb-false (m .status % 2) 1 d)))))
 
-pub awake-unmarked : AwakeUnmarked
+pub unmarked-by-class : UnmarkedByClass
 unfolding lookUp groups bytesOf statusShown serialBytes meterBytes classAt
-awake-unmarked r meter buffer n e h =
+unmarked-by-class r meter buffer n e h =
     let read = given-first r 82 meter buffer n e in
     let even = awake-even _ (meterAt (r .state .meters) meter) _ h in
     rw (read .2, h) (omega arith)

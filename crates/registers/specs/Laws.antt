@@ -34,17 +34,17 @@ GivenFirst =
     → (length (contentsOf r group register) ≡ n) × (n ≤ length buffer)
     × (registerReply r group register buffer .buffer ≡ contentsOf r group register ++ drop n buffer)
 
--- "A serial value from a meter not awake always carries the invalid mark", in every state and for every request: IV, the lowest bit of STATUS, byte 8 of a register of group 82
-abbrev pub InvalidMark : Type 0
-InvalidMark =
+-- a serial value from a meter of another class than awake, 0, carries IV, the lowest bit of STATUS, byte 8 of a register of group 82; crate `demands` spells the class out
+abbrev pub MarkedByClass : Type 0
+MarkedByClass =
     (r : Recorder) (meter : ℕ) (buffer : List ℕ) (n : ℕ)
     → registerReply r 82 meter buffer .answer ≡ given n
     → (classAt (r .config .limits) (r .state .meters) (r .state .clock) meter ≡ 0 → ⊥)
     → getD (registerReply r 82 meter buffer .buffer) 8 0 % 2 ≡ 1
 
 -- and that of an awake meter never does
-abbrev pub AwakeUnmarked : Type 0
-AwakeUnmarked =
+abbrev pub UnmarkedByClass : Type 0
+UnmarkedByClass =
     (r : Recorder) (meter : ℕ) (buffer : List ℕ) (n : ℕ)
     → registerReply r 82 meter buffer .answer ≡ given n
     → classAt (r .config .limits) (r .state .meters) (r .state .clock) meter ≡ 0

@@ -1,12 +1,15 @@
 -- The laws of specs/Laws.antt.
 use mathlib.Core.Path.{_≡_, refl, sym}
 use mathlib.Core.Bool.{false, and-false}
+use mathlib.Core.Logic.{⊎-elim}
 use Prim.Native.Nat.{ℕ, _+_, _/_, _%_}
 use native.Mathlib.Omega.{arith}
 use borrow.Author.Tests.{le-ltb, eqb-false}
-use lib.Dec.{eqb, ltb}
-use Rattle.laws.specs.Tests.{by-test}
-use Rattle.calendar.specs.Moments.{yearDay, momentOf}
+use lib.Dec.{eqb}
+use Rattle.laws.specs.Answers.{given, refused}
+use Rattle.calendar.specs.Moments.{momentOf, atSecond}
+use Rattle.calendar.specs.declared.Moment.{Moment}
+use Rattle.calendar.proofs.Moments.{moment-is-found, found-is-moment, same-minute, dated-or-not}
 use Rattle.tariff.specs.Daily.{dailyActive}
 use Rattle.tariff.specs.Weekly.{fitsAt, columnOn, referenceAt, weeklyActive}
 use Rattle.tariff.specs.Seasons.{seasonActive, inSeason}
@@ -41,23 +44,23 @@ pub second-makes-no-difference : SecondMakesNoDifference
 unfolding forceMap inForce applies weeklyActive columnOn
 second-makes-no-difference p m second = refl
 
--- the seconds of a minute have one map, also past the clock's last
-one-map : (p : Program) (s t : ℕ) → s / 60 ≡ t / 60 → forceMapAt p s ≡ forceMapAt p t
-unfolding momentOf forceOf
-one-map p s t e =
-    let day : s / 86_400 ≡ t / 86_400 = omega arith in
-    let hour : s / 3_600 % 24 ≡ t / 3_600 % 24 = omega arith in
-    rw (day, hour, e)
-    (by-test (ltb (1970 + yearDay (t / 86_400) .years) 2107)
-    (λ b. rw b (second-makes-no-difference p _ (s % 60)))
-    (λ b. rw b))
+-- a second that has a moment, and another of its minute
+dated-map : (p : Program) (s t : ℕ) (m : Moment) → momentOf s ≡ given m → s / 60 ≡ t / 60 → forceMapAt p s ≡ forceMapAt p t
+unfolding forceOf
+dated-map p s t m e same =
+    let found = moment-is-found t (atSecond m (t % 60)) (same-minute s t m (found-is-moment s m (sym e)) same) in
+    rw (e, ← found) (sym (second-makes-no-difference p m (t % 60)))
 
 pub same-minute-same-map : SameMinuteSameMap
-same-minute-same-map p t u h k e = one-map p t u e
+same-minute-same-map p s t same =
+    ⊎-elim (λ d. dated-map p s t (d .0) (d .1) same)
+    (λ (none : momentOf s ≡ refused 9 0).
+    ⊎-elim (λ d. sym (dated-map p t s (d .0) (d .1) (sym same))) (λ (neither : momentOf t ≡ refused 9 0). rw (none, neither)) (dated-or-not t))
+    (dated-or-not s)
 
 -- the map of a second is that of the second before, if no minute begins with it
 pub next-same : (p : Program) (s : ℕ) → eqb ((s + 1) % 60) 0 ≡ false → forceMapAt p (s + 1) ≡ forceMapAt p s
-next-same p s h = one-map p (s + 1) s (omega (arith, eqb-false ((s + 1) % 60) 0 h))
+next-same p s h = same-minute-same-map p (s + 1) s (omega (arith, eqb-false ((s + 1) % 60) 0 h))
 
 pub weekday-and-minute : WeekdayAndMinute
 unfolding weeklyActive columnOn

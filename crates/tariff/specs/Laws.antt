@@ -2,7 +2,7 @@
 use mathlib.Core.Path.{_≡_}
 use mathlib.Core.Bool.{true, false}
 use mathlib.Core.Option.{none}
-use Prim.Native.Nat.{ℕ, _/_, _^_, _<_, _≤_}
+use Prim.Native.Nat.{ℕ, _/_, _<_, _≤_}
 use Rattle.laws.specs.Masks.{bitAt}
 use Rattle.calendar.specs.Moments.{atSecond}
 use Rattle.calendar.specs.declared.Moment.{Moment}
@@ -39,7 +39,7 @@ NoRuleNever = (p : Program) (rule minute : ℕ) → 32 ≤ rule → dailyActive 
 
 -- another second of the same minute has the same map
 abbrev pub SameMinuteSameMap : Type 0
-SameMinuteSameMap = (p : Program) (t u : ℕ) → t < 2 ^ 32 → u < 2 ^ 32 → t / 60 ≡ u / 60 → forceMapAt p t ≡ forceMapAt p u
+SameMinuteSameMap = (p : Program) (t u : ℕ) → t / 60 ≡ u / 60 → forceMapAt p t ≡ forceMapAt p u
 
 -- so has a moment that differs in the second alone
 abbrev pub SecondMakesNoDifference : Type 0

@@ -5,10 +5,11 @@ use mathlib.Core.List.{List}
 use Prim.Native.Nat.{ℕ, _≤_, _<_}
 use native.Mathlib.Nat.{le-refl}
 use native.Mathlib.Omega.{arith}
-use borrow.Author.Tests.{eq-eqb, ne-eqb, lt-ltb, le-ltb}
-use lib.Dec.{ltb}
+use borrow.Author.Tests.{eq-eqb, ne-eqb, eqb-true, lt-ltb, le-ltb}
+use lib.Dec.{eqb, ltb}
 use lib.ListN.{length, drop}
 use lib.Seq.{sets, sets-eq}
+use Rattle.laws.specs.Tests.{by-test}
 use Rattle.laws.specs.Answers.{Answer, given, refused}
 use Rattle.laws.specs.Bytes.{le}
 use Rattle.laws.specs.Masks.{maskOf, bitAt, bit-at}
@@ -20,7 +21,7 @@ use Rattle.settings.specs.declared.Config.{Config}
 use Rattle.settings.specs.declared.Input.{Input}
 use Rattle.image.specs.declared.ImageRead.{ImageRead}
 use Rattle.image.specs.declared.ImageAnswer.{ImageAnswer}
-use Rattle.image.specs.declared.ImageAnswer.the-variants.{Accepted}
+use Rattle.image.specs.declared.ImageAnswer.the-variants.{Accepted, Length, Mark, Version, Value}
 use Rattle.image.proofs.Stores.{length-encode}
 
 module _ (b : List ℕ) where
@@ -41,15 +42,29 @@ module _ (b : List ℕ) where
     unfolding imageAnswer
     answer-checked m v = rw (eq-eqb (length b) 1126 n, m, eq-eqb (le 2 (drop 3 b)) 1 v)
 
-  -- a refusal is read
-  pub read-refused : (a : ImageAnswer) {r : ImageRead} {k o : ℕ} → r ≡ refusedWith a → imageSaid a ≡ refused k o → imageAnswer b ≡ refused k o → IsRead b r
+  -- an image that is accepted has its length
+  pub accepted-length : imageAnswer b ≡ given tt → length b ≡ 1126
+  unfolding imageAnswer
+  accepted-length e =
+      by-test (eqb (length b) 1126) (λ t. eqb-true (length b) 1126 t)
+      (λ f.
+      let q : refused 1 0 ≡ given tt = rw f at e in
+      let z : _≡_ {A = ℕ} 0 1 = cc in
+      absurd (omega arith))
+
+  -- any answer but an acceptance is a refusal, and is read
+  pub read-refused : (a : ImageAnswer) {r : ImageRead} → (a ≡ Accepted → ⊥) → imageSaid a ≡ imageAnswer b → r ≡ refusedWith a → IsRead b r
   unfolding imageConfig
-  read-refused a e s q = record { answer = rw (e, q) s; config = rw (e, q) }
+  read-refused Accepted n s e = absurd (n refl)
+  read-refused Length n s e = record { answer = rw e s; config = rw (e, ← s) }
+  read-refused Mark n s e = record { answer = rw e s; config = rw (e, ← s) }
+  read-refused Version n s e = record { answer = rw e s; config = rw (e, ← s) }
+  read-refused (Value offset) n s e = record { answer = rw e s; config = rw (e, ← s) }
 
   -- an accepted image is read
-  pub read-accepted : (c : Config) → c ≡ decode b → imageAnswer b ≡ given tt → IsRead b (record { answer = Accepted; config = c })
+  pub read-accepted : (c : Config) → imageAnswer b ≡ given tt → c ≡ decode b → IsRead b (record { answer = Accepted; config = c })
   unfolding imageConfig
-  read-accepted c e q = record { answer = rw q; config = rw q e }
+  read-accepted c q e = record { answer = rw q; config = rw q e }
 
 module _ (c : Config) (l : List ℕ) where
   -- an entry breaks its rule: nothing is written

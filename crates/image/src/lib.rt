@@ -109,36 +109,41 @@ fn refused(a: ImageAnswer) -> ImageRead
     }
 }
 
-// Reads an image: refused for its length, its letters, its version, then for the first entry that breaks its rule.
-pub fn read_image(bytes: &[u8]) -> ImageRead
-    ensures { λ r. ⌜ IsRead (now (bytes .entry)) r ⌝ }
-{
-    if bytes.len() != 1126 {
-        return refused(ImageAnswer::Length);
-    }
-    let marked = (bytes[0] == b'K') & (bytes[1] == b'R') & (bytes[2] == b'C');
-    if !marked {
-        return refused(ImageAnswer::Mark);
-    }
-    if le::u16_at(bytes, 3) != 1 {
-        return refused(ImageAnswer::Version);
-    }
-    let config = read::config(bytes);
-    match check_config(config) {
-        Verdict::Good => ImageRead {
-            answer: ImageAnswer::Accepted,
-            config: config,
-        },
-        Verdict::Value(offset) => refused(ImageAnswer::Value(offset)),
-    }
-}
-
-// The answer alone.
+// The check of an image: refused for its length, its letters, its version, then for the first entry that breaks its rule.
 pub fn check_image(bytes: &[u8]) -> ImageAnswer
     ensures { λ r. ⌜ imageSaid r ≡ imageAnswer (now (bytes .entry)) ⌝ }
 {
-    let r = read_image(bytes);
-    r.answer
+    if bytes.len() != 1126 {
+        return ImageAnswer::Length;
+    }
+    let marked = (bytes[0] == b'K') & (bytes[1] == b'R') & (bytes[2] == b'C');
+    if !marked {
+        return ImageAnswer::Mark;
+    }
+    if le::u16_at(bytes, 3) != 1 {
+        return ImageAnswer::Version;
+    }
+    match check_config(read::config(bytes)) {
+        Verdict::Good => ImageAnswer::Accepted,
+        Verdict::Value(offset) => ImageAnswer::Value(offset),
+    }
+}
+
+// Reads an image. The check alone, which is asked for more often, makes no configuration to hand back; so this one makes it again.
+pub fn read_image(bytes: &[u8]) -> ImageRead
+    ensures { λ r. ⌜ IsRead (now (bytes .entry)) r ⌝ }
+{
+    let answer = check_image(bytes);
+    match answer {
+        ImageAnswer::Accepted => {
+            let config = read::config(bytes);
+            ImageRead {
+                answer: ImageAnswer::Accepted,
+                config,
+            }
+        }
+        _ => refused(answer),
+    }
 }
 
 // Writes the image of a configuration into the first bytes of the buffer. A refusal leaves every byte.

@@ -18,8 +18,8 @@ pub enum SetAnswer {
 }
 
 pub struct Setting {
-    pub answer: SetAnswer,
     pub state: State,
+    pub answer: SetAnswer,
 }
 
 pub enum ReadingAnswer {
@@ -30,8 +30,8 @@ pub enum ReadingAnswer {
 }
 
 pub struct Reading {
-    pub answer: ReadingAnswer,
     pub state: State,
+    pub answer: ReadingAnswer,
 }
 
 // The period closes at the old time as short; second and period start anew.

@@ -27,8 +27,8 @@ ghost use Rattle.recorder.specs.Calls.{freshState, blankRecorder, startS
 
 // What is fixed from the start on, and what moves.
 pub struct Recorder {
-    pub config: Config,
     pub state: State,
+    pub config: Config,
 }
 
 pub enum StartAnswer {
@@ -42,30 +42,30 @@ pub enum StartAnswer {
 
 // The recorder beside a refused start is the blank one.
 pub struct Start {
-    pub answer: StartAnswer,
     pub recorder: Recorder,
+    pub answer: StartAnswer,
 }
 
 pub struct Sampled {
-    pub answer: SampleAnswer,
     pub recorder: Recorder,
+    pub answer: SampleAnswer,
 }
 
 // How many samples were taken, and the refusal that ended the run, if there was one.
 pub struct SampleRun {
+    pub recorder: Recorder,
     pub taken: usize,
     pub answer: SampleAnswer,
-    pub recorder: Recorder,
 }
 
 pub struct ClockSet {
-    pub answer: SetAnswer,
     pub recorder: Recorder,
+    pub answer: SetAnswer,
 }
 
 pub struct MeterRead {
-    pub answer: ReadingAnswer,
     pub recorder: Recorder,
+    pub answer: ReadingAnswer,
 }
 
 // A state with nothing booked, at a time.

@@ -143,8 +143,10 @@ fn meter(config: Config, state: State, i: usize) -> [u8; 13]
     requires { ⌜ i < 32 ⌝ }
     ensures { λ r. ⌜ r ≡ padded (meterBytes config state i) ⌝ }
 {
-    let meter = state.meters[i];
-    serial(meter, meter_class(config.limits[i], meter, state.clock))
+    let meters = state.meters;
+    let limits = config.limits;
+    let meter = meters[i];
+    serial(meter, meter_class(limits[i], meter, state.clock))
 }
 
 // Group 201 of a slot.
@@ -173,11 +175,13 @@ pub(crate) fn contents(recorder: Recorder, group: u32, register: u32) -> [u8; 13
         91 => weekly(program, register as u8, state.clock),
         201 => slot(state, i),
         202 => {
-            let b = state.bills[i];
+            let bills = state.bills;
+            let b = bills[i];
             bill(b)
         }
         203 => {
-            let line = state.lines[i];
+            let lines = state.lines;
+            let line = lines[i];
             input(line)
         }
         204 => fleet_bytes(fleet_of(recorder)),

@@ -4,13 +4,11 @@ use recorder::Meter;
 use recorder::Recorder;
 ghost use mathlib.Core.Path.{_≡_};
 ghost use mathlib.Core.Bool.{cond};
-ghost use Prim.Native.Nat.{_+_, _≤_, _^_};
-ghost use lib.Dec.{eqb};
+ghost use Prim.Native.Nat.{_+_, _<_, _≤_, _^_};
 ghost use lib.IntN.{pos, natAbs, _+ℤ_};
-ghost use Rattle.laws.specs.Tables.{table};
-ghost use Rattle.laws.specs.Masks.{maskOf};
+ghost use Rattle.laws.specs.Masks.{withBit};
 ghost use Rattle.recorder.specs.Meters.{ageNumber};
-ghost use Rattle.registers.specs.Fleet.{meterClass, classAt, hasClass, awakeSum, fleetOf};
+ghost use Rattle.registers.specs.Fleet.{meterClass, fleetOf};
 
 pub(crate) const AWAKE: u8 = 0;
 
@@ -59,27 +57,13 @@ pub(crate) fn meter_class(limit: u16, meter: Meter, clock: u32) -> u8
     ))
 }
 
-fn classes_of(limits: [u16; 32], meters: [Meter; 32], clock: u32) -> [u8; 32]
-    ensures { λ r. ⌜ r ≡ table 32 (classAt limits meters clock) ⌝ }
+// A mask of the meters before meter i, with that meter in it or not.
+fn with_meter(mask: u32, i: usize, on: bool) -> u32
+    requires { ⌜ (i < 32) × (mask < 2 ^ i) ⌝ }
+    ensures { λ r. ⌜ r ≡ withBit mask i on ⌝ }
 {
-    let mut classes = [0u8; 32];
-    for i in 0..32usize {
-        let meter = meters[i];
-        classes[i] = meter_class(limits[i], meter, clock);
-    }
-    classes
-}
-
-// Bit i is on where meter i is of the class.
-fn class_mask(classes: [u8; 32], class: u8) -> u32
-    ensures { λ r. ⌜ r ≡ maskOf 32 (hasClass classes class) ⌝ }
-{
-    let mut mask: u32 = 0;
-    for i in 0..32usize {
-        if classes[i] != class {
-            continue;
-        }
-        mask += 1u32 << i;
+    if on {
+        return (1u32 << i) + mask;
     }
     mask
 }
@@ -92,18 +76,7 @@ fn plus_if(sum: i64, wanted: bool, value: i32) -> i64
     if wanted { sum + value as i64 } else { sum }
 }
 
-fn awake_sum(classes: [u8; 32], meters: [Meter; 32]) -> i64
-    ensures { λ r. ⌜ r ≡ awakeSum classes meters ⌝ }
-{
-    let mut sum: i64 = 0;
-    for i in 0..32usize {
-        let meter = meters[i];
-        sum = plus_if(sum, classes[i] == AWAKE, meter.value);
-    }
-    sum
-}
-
-// The fitted meters are those of any class.
+// One look at each meter makes the masks of the four classes and the sum. The fitted meters are those of any class.
 pub fn fleet_of(recorder: Recorder) -> Fleet
     ensures { λ r. ⌜ r ≡ fleetOf recorder ⌝ }
 {
@@ -111,11 +84,21 @@ pub fn fleet_of(recorder: Recorder) -> Fleet
     let limits = config.limits;
     let state = recorder.state;
     let meters = state.meters;
-    let classes = classes_of(limits, meters, state.clock);
-    let awake = class_mask(classes, AWAKE);
-    let stale = class_mask(classes, STALE);
-    let invalid = class_mask(classes, INVALID);
-    let never = class_mask(classes, NEVER);
+    let clock = state.clock;
+    let mut awake: u32 = 0;
+    let mut stale: u32 = 0;
+    let mut invalid: u32 = 0;
+    let mut never: u32 = 0;
+    let mut sum: i64 = 0;
+    for i in 0..32usize {
+        let meter = meters[i];
+        let class = meter_class(limits[i], meter, clock);
+        awake = with_meter(awake, i, class == AWAKE);
+        stale = with_meter(stale, i, class == STALE);
+        invalid = with_meter(invalid, i, class == INVALID);
+        never = with_meter(never, i, class == NEVER);
+        sum = plus_if(sum, class == AWAKE, meter.value);
+    }
     let fitted = awake | stale | invalid | never;
     Fleet {
         fitted: u32::count_ones(fitted) as u8,
@@ -123,6 +106,6 @@ pub fn fleet_of(recorder: Recorder) -> Fleet
         stale: u32::count_ones(stale) as u8,
         invalid: u32::count_ones(invalid) as u8,
         never: u32::count_ones(never) as u8,
-        sum: awake_sum(classes, meters),
+        sum,
     }
 }

@@ -52,17 +52,23 @@ fn is_fitted(config: Config, group: u32, register: u32) -> bool
 {
     let i = register as usize;
     match group {
-        82 => config.limits[i] != 0,
+        82 => {
+            let limits = config.limits;
+            limits[i] != 0
+        }
         201 => {
-            let slot = config.slots[i];
+            let slots = config.slots;
+            let slot = slots[i];
             slot.level != 255
         }
         202 => {
-            let bill = config.registers[i];
+            let bills = config.registers;
+            let bill = bills[i];
             bill.sum != 255
         }
         203 => {
-            let input = config.inputs[i];
+            let inputs = config.inputs;
+            let input = inputs[i];
             input.kind != 0
         }
         _ => true,

@@ -100,10 +100,11 @@ fn season(x: Season) -> bool
 fn holiday(x: Holiday) -> bool
     ensures { λ r. ⌜ r ≡ holidayGood x ⌝ }
 {
-    let unused = (x.day == 0) & (x.month == 0) & (x.year == 0);
-    let some = calendar::exists_in_some_year(x.day, x.month);
-    let own = calendar::day_exists(x.day, x.month, x.year);
-    ((1970 <= x.year) & (x.year <= 2106) & own) | ((x.year == 0) & some) | unused
+    if x.year == 0 {
+        let unused = (x.day == 0) & (x.month == 0);
+        return calendar::exists_in_some_year(x.day, x.month) | unused;
+    }
+    (1970 <= x.year) & (x.year <= 2106) & calendar::day_exists(x.day, x.month, x.year)
 }
 
 fn rule(x: Rule) -> bool

@@ -26,13 +26,13 @@ cast-weekly c =
     let few : c .before .before .before .before .args .register < 16 = rw (c .match .keys4) at h in
     record { fits = omega arith }
 
-element-copy-out-b : tie.Need-element-copy-out-b
+array-copy-out-b : tie.Need-array-copy-out-b
 unfolding lookUp groups
-element-copy-out-b c = let h = c .before .before .before .before .pre in rw (c .match .keys6) at h
+array-copy-out-b c = let h = c .before .before .before .before .before .pre in rw (c .before .match .keys6) at h
 
-element-copy-out-line : tie.Need-element-copy-out-line
+array-copy-out-line : tie.Need-array-copy-out-line
 unfolding lookUp groups
-element-copy-out-line c = let h = c .before .before .before .before .pre in rw (c .match .keys7) at h
+array-copy-out-line c = let h = c .before .before .before .before .before .pre in rw (c .before .match .keys7) at h
 
 slot-requires : tie.Need-slot-requires
 unfolding lookUp groups
@@ -60,11 +60,11 @@ returns-5 c = c .slot .ensures ∙ rw (c .before .match .keys5)
 
 returns-6 : tie.Need-returns-6
 unfolding lookUp groups
-returns-6 c = c .bill .ensures ∙ rw (c .before .before .match .keys6)
+returns-6 c = c .bill .ensures ∙ rw (c .before .before .before .match .keys6)
 
 returns-7 : tie.Need-returns-7
 unfolding lookUp groups
-returns-7 c = c .input .ensures ∙ rw (c .before .before .match .keys7)
+returns-7 c = c .input .ensures ∙ rw (c .before .before .before .match .keys7)
 
 returns-8 : tie.Need-returns-8
 unfolding lookUp groups
@@ -93,10 +93,10 @@ contents-spec =
     (λ c κs. search needs)
     slot-requires
     (λ c. search needs)
-    element-copy-out-b
+    array-copy-out-b
     (λ c κs. search needs)
     (λ c. search needs)
-    element-copy-out-line
+    array-copy-out-line
     (λ c κs. search needs)
     (λ c κs. search needs)
     (λ c κs. search needs)

@@ -1,0 +1,22 @@
+-- `registers::fleet::with_meter` meets its contract: the bit is past those that the mask has, so nothing is carried.
+use native.Mathlib.Nat.{one-mul, zero-mul, zero-add, pow-suc}
+use native.Mathlib.Omega.{arith}
+use borrow.Author.Needs.{needs}
+use lib.Pow.{pow-mono}
+use Rattle.laws.specs.Masks.{shl-is}
+use Rattle.registers.proofs.fleet.with_meter.Statement.{statement}
+use Rattle.registers.proofs.fleet.with_meter.Tie as tie
+
+add-result : tie.Need-add-result
+add-result c =
+    let place = c .before .args .i in
+    record { fits = rw (shl-is place 32 (c .before .pre .0)) (omega (arith, pow-suc 2 place, pow-mono (c .before .pre .0))) }
+
+returns : tie.Need-returns
+returns c = rw (c .if1 .taken, shl-is (c .before .args .i) 32 (c .before .pre .0), one-mul)
+
+returns-2 : tie.Need-returns-2
+returns-2 c = rw (c .if1 .left, zero-mul, zero-add)
+
+pub with-meter-spec : {M : Type 1} → statement M
+with-meter-spec = tie.close (tie.spec (λ c. search needs) (λ c. search needs) add-result returns returns-2)

@@ -403,21 +403,32 @@ void peer_reset(struct recorder *r) {
 
 /* ---- Registers. */
 
+/* "Stale if the clock is past its stamp by more than its limit (a stamp ahead of the clock is not stale); else invalid if its IV is set; else awake." */
+static enum age age(uint32_t limit, uint32_t read, uint32_t stamp, uint32_t status, uint32_t clock) {
+    if (read == 0) return NEVER;
+    if ((uint64_t)stamp + limit < clock) return STALE;
+    return (status & 1) != 0 ? INVALID : AWAKE;
+}
+
+uint32_t peer_age_class(uint32_t limit, uint32_t read, uint32_t stamp, uint32_t status, uint32_t clock) {
+    if (limit == 0) return NOT_FITTED;
+    if (status > 7) return READING;
+    return age(limit, read, stamp, status, clock);
+}
+
 static enum age age_of(const struct recorder *r, uint32_t i) {
     const struct meter *m = &r->meters[i];
-    if (!m->read) return NEVER;
-    if ((uint64_t)m->stamp + limit_of(r, i) < r->clock) return STALE;
-    return (m->status & 1) != 0 ? INVALID : AWAKE;
+    return age(limit_of(r, i), m->read, m->stamp, m->status, r->clock);
 }
 
 struct fleet peer_fleet(const struct recorder *r) {
     struct fleet f = {0};
     for (uint32_t i = 0; i < METERS; i++) {
         if (limit_of(r, i) == 0) continue;
-        enum age age = age_of(r, i);
+        enum age class = age_of(r, i);
         f.fitted++;
-        f.count[age]++;
-        if (age == AWAKE) f.sum += r->meters[i].value;
+        f.count[class]++;
+        if (class == AWAKE) f.sum += r->meters[i].value;
     }
     return f;
 }
@@ -429,15 +440,15 @@ static void put(uint8_t *p, uint64_t x, int n) {
 /* "STATUS 1 (IV set unless awake) ...; never: zeros but STATUS 1." */
 static void put_serial(const struct recorder *r, uint32_t i, uint8_t *b) {
     const struct meter *m = &r->meters[i];
-    enum age age = age_of(r, i);
-    if (age == NEVER) {
+    enum age class = age_of(r, i);
+    if (class == NEVER) {
         memset(b, 0, 10);
         b[8] = 1;
         return;
     }
     put(b, m->stamp, 4);
     put(b + 4, (uint32_t)m->value, 4);
-    b[8] = (uint8_t)(m->status | (age != AWAKE));
+    b[8] = (uint8_t)(m->status | (class != AWAKE));
     b[9] = m->seq;
 }
 

@@ -1,8 +1,8 @@
 /*
  * Another recorder: the rules of document 01 and the decided points, in plain C. It shares no code and no definition with the crates.
  *
- * It serves all comparisons: the program hall is compared with it on random calls, on stored answers and on the cases (hall.c beside this file reads the lines), and
- * bench/run measures the product against it. So it works in place and is written for speed, and it answers every call.
+ * It serves all comparisons: the program hall is compared with it on random calls, on stored answers and on the cases (hall.c beside this file reads the lines), the C
+ * functions by tests/differential.rs, and bench/run measures the product against it. So it works in place and is written for speed, and it answers every call.
  */
 #ifndef PEER_RECORDER_H
 #define PEER_RECORDER_H
@@ -64,6 +64,9 @@ uint32_t peer_image_check(const uint8_t *image, size_t length);
 
 /* The moment of a second: the year in the low two bytes, then month, day, weekday (0 Monday), hour, minute, second, one byte each. */
 uint64_t peer_calendar(uint32_t seconds);
+
+/* A meter's age class, or 8 for limit 0, then 10 for STATUS above 7. `read` is 0 for no, and any other number for yes. */
+uint32_t peer_age_class(uint32_t limit, uint32_t read, uint32_t stamp, uint32_t status, uint32_t clock);
 
 /* As the image check. A refused start leaves the blank recorder, all zeros, and every call on that has its answer, too. */
 uint32_t peer_start(struct recorder *r, const uint8_t *image, size_t length, uint32_t time);

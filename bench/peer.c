@@ -1,5 +1,5 @@
-/* The jobs of crates/bench on the recorder of reference.c: the same arguments, the same input, the same output. */
-#include "reference.h"
+/* The jobs of crates/bench on the recorder of tests/peer: the same arguments, the same input, the same output. */
+#include "../tests/peer/recorder.h"
 
 #include <stdio.h>
 #include <stdlib.h>
@@ -21,15 +21,15 @@ static const struct {
 static uint32_t mixed(uint32_t sum, uint32_t number) { return sum * 31 + number; }
 
 static void start(struct recorder *r) {
-    reference_start(r, image, IMAGE_LENGTH, start_time);
-    for (int i = 0; i < METERS; i++) reference_reading(r, (uint32_t)i, i % 2 == 0 ? i : ~i, (uint32_t)i % 8, (uint32_t)i);
+    peer_start(r, image, IMAGE_LENGTH, start_time);
+    for (int i = 0; i < METERS; i++) peer_reading(r, (uint32_t)i, i % 2 == 0 ? i : ~i, (uint32_t)i % 8, (uint32_t)i);
 }
 
 static void write_registers(const struct recorder *r) {
     for (size_t k = 0; k < sizeof groups / sizeof groups[0]; k++)
         for (uint32_t i = 0; i < groups[k].registers; i++) {
             uint8_t bytes[13] = {0};
-            if (reference_register(r, groups[k].group, i, bytes, sizeof bytes) < 0) continue;
+            if (peer_register(r, groups[k].group, i, bytes, sizeof bytes) < 0) continue;
             for (int b = 0; b < 13; b++) printf("%02x", bytes[b]);
             putchar('\n');
         }
@@ -41,7 +41,7 @@ static void samples(uint32_t rounds) {
     start(&r);
     for (uint32_t i = 0; i < rounds; i++) {
         size_t taken;
-        sum = mixed(sum, reference_samples(&r, bits, SAMPLES, &taken));
+        sum = mixed(sum, peer_samples(&r, bits, SAMPLES, &taken));
     }
     printf("%u\n", sum);
     write_registers(&r);
@@ -55,7 +55,7 @@ static void images(uint32_t rounds) {
     memcpy(bytes, image, sizeof bytes);
     for (uint32_t i = 0; i < rounds; i++) {
         bytes[198 + i % 64] = (uint8_t)i;
-        sum = mixed(sum, image_number(reference_image_check(bytes, sizeof bytes)));
+        sum = mixed(sum, image_number(peer_image_check(bytes, sizeof bytes)));
     }
     printf("%u\n", sum);
 }
@@ -73,7 +73,7 @@ static uint32_t given(int answer) {
 /* How many bytes were given, and the first of them. */
 static uint32_t read_one(const struct recorder *r, uint32_t group, uint32_t number) {
     uint8_t bytes[13] = {0};
-    uint32_t n = given(reference_register(r, group, number, bytes, sizeof bytes));
+    uint32_t n = given(peer_register(r, group, number, bytes, sizeof bytes));
     return mixed(n, bytes[0]);
 }
 
@@ -94,8 +94,8 @@ static void reads(uint32_t rounds) {
     uint32_t sum = 0;
     size_t taken;
     start(&r);
-    reference_samples(&r, bits, SAMPLES, &taken);
-    reference_reset(&r);
+    peer_samples(&r, bits, SAMPLES, &taken);
+    peer_reset(&r);
     for (uint32_t i = 0; i < rounds; i++) sum = mixed(sum, read_groups(&r, i));
     printf("%u\n", sum);
 }
@@ -103,7 +103,7 @@ static void reads(uint32_t rounds) {
 static void moments(uint32_t rounds) {
     uint32_t sum = 0;
     for (uint32_t i = 0; i < rounds; i++) {
-        uint64_t number = reference_calendar(i * 2654435761u);
+        uint64_t number = peer_calendar(i * 2654435761u);
         sum = mixed(mixed(sum, (uint32_t)number), (uint32_t)(number >> 32));
     }
     printf("%u\n", sum);

@@ -1,10 +1,9 @@
-//! The three C functions beside code that shares nothing with them, on many inputs: `differential IMAGE [ASKER..]`.
+//! The three C functions of the archive beside those of the peer (tests/peer), which shares nothing with them, on many inputs: `differential IMAGE [ASKER..]`.
 //!
-//! `rules` is written from document 01 alone. Its calendar is the one of days from 1 March, its weekday is worked out from the date, a day exists if its
-//! number gives it back, and its image check walks through the bytes, so that the offsets come from the sizes of the entries. First come the edges, then numbers
-//! from a fixed seed. Each difference is printed with its input. The last line is 'N passed, M failed', and one case that was never met is a failure too.
+//! First come the edges, then numbers from a fixed seed. Each difference is printed with its input. The last line is 'N passed, M failed', and one case that was never met is a
+//! failure too.
 //!
-//! On x86-64 the archive is linked. Elsewhere, built with `--cfg piped`, the words after IMAGE are the command of tests/asker.c, which is asked over pipes.
+//! On x86-64 the archive is linked. Elsewhere, built with `--cfg piped`, the words after IMAGE are the command of tests/asker.c, which is asked over pipes. The peer is always linked.
 #![allow(unknown_lints, unexpected_cfgs)]
 
 use std::collections::{BTreeMap, BTreeSet};
@@ -34,189 +33,39 @@ impl fmt::Display for Question {
     }
 }
 
-/// Document 01 once more.
-mod rules {
-    use super::{Question, IMAGE_LENGTH};
+/// Every offset at which an entry begins, with its size: period, inputs, sums, coefficients, slots, limits, windows, weekly references, seasons, holidays, tariff rules, bill registers.
+fn entries() -> Vec<(usize, usize)> {
+    let sections = [(1, 1), (16, 7), (8, 2), (32, 1), (16, 2), (32, 2), (32 * 4, 4), (16 * 8, 1), (8, 4), (32, 4), (16, 2), (16, 2)];
+    let mut at = 5;
+    let mut entries = Vec::new();
+    for (count, size) in sections {
+        for _ in 0..count {
+            entries.push((at, size));
+            at += size;
+        }
+    }
+    assert_eq!(at, IMAGE_LENGTH);
+    entries
+}
+
+/// The peer, linked.
+mod peer {
+    use super::Question;
+
+    extern "C" {
+        fn peer_image_check(image: *const u8, length: usize) -> u32;
+        fn peer_calendar(seconds: u32) -> u64;
+        fn peer_age_class(limit: u32, read: u32, stamp: u32, status: u32, clock: u32) -> u32;
+    }
 
     pub fn answer(question: &Question) -> u64 {
-        match question {
-            Question::Image(bytes) => u64::from(image(bytes)),
-            Question::Calendar(seconds) => calendar(*seconds),
-            Question::Age(words) => u64::from(age(*words)),
-        }
-    }
-
-    // ---- serial meters
-
-    fn age([limit, read, stamp, status, clock]: [u32; 5]) -> u32 {
-        if limit == 0 {
-            return 8;
-        }
-        if status > 7 {
-            return 10;
-        }
-        if read == 0 {
-            return 3;
-        }
-        // past the stamp; a stamp ahead of the clock is not
-        let past = clock.saturating_sub(stamp);
-        match (past > limit, status & 1) {
-            (true, _) => 1,
-            (false, 1) => 2,
-            (false, _) => 0,
-        }
-    }
-
-    // ---- the calendar
-
-    /// Year, month and day of a day number from 1.1.1970. The years begin on 1 March, so that a leap day is the last of its year.
-    fn civil(day: i64) -> (i64, i64, i64) {
-        let since = day + 719_468;
-        let era = since.div_euclid(146_097);
-        let of_era = since.rem_euclid(146_097);
-        let year = (of_era - of_era / 1_460 + of_era / 36_524 - of_era / 146_096) / 365;
-        let of_year = of_era - (365 * year + year / 4 - year / 100);
-        let march = (5 * of_year + 2) / 153;
-        let month = if march < 10 { march + 3 } else { march - 9 };
-        (year + era * 400 + i64::from(month <= 2), month, of_year - (153 * march + 2) / 5 + 1)
-    }
-
-    /// The day number of a date.
-    fn number(year: i64, month: i64, day: i64) -> i64 {
-        let year = year - i64::from(month <= 2);
-        let era = year.div_euclid(400);
-        let of_era = year.rem_euclid(400);
-        let march = (month + 9) % 12;
-        era * 146_097 + of_era * 365 + of_era / 4 - of_era / 100 + (153 * march + 2) / 5 + day - 1 - 719_468
-    }
-
-    /// 0 for Monday, from the date alone.
-    fn weekday(year: i64, month: i64, day: i64) -> i64 {
-        let shift = [0, 3, 2, 5, 0, 3, 5, 1, 4, 6, 2, 4][month as usize - 1];
-        let year = year - i64::from(month < 3);
-        (year + year / 4 - year / 100 + year / 400 + shift + day + 6) % 7
-    }
-
-    fn exists(day: u8, month: u8, year: i64) -> bool {
-        let date = (year, i64::from(month), i64::from(day));
-        (1..=12).contains(&month) && civil(number(date.0, date.1, date.2)) == date
-    }
-
-    fn exists_in_some_year(day: u8, month: u8) -> bool {
-        exists(day, month, 1999) || exists(day, month, 2000)
-    }
-
-    fn calendar(seconds: u32) -> u64 {
-        let (year, month, day) = civil(i64::from(seconds / 86_400));
-        let time = seconds % 86_400;
-        let low = (year as u16).to_le_bytes();
-        u64::from_le_bytes([
-            low[0],
-            low[1],
-            month as u8,
-            day as u8,
-            weekday(year, month, day) as u8,
-            (time / 3_600) as u8,
-            (time / 60 % 60) as u8,
-            (time % 60) as u8,
-        ])
-    }
-
-    // ---- images
-
-    fn image(bytes: &[u8]) -> u32 {
-        if bytes.len() != IMAGE_LENGTH {
-            return 0x1_0000;
-        }
-        if !bytes.starts_with(b"KRC") {
-            return 0x2_0000;
-        }
-        if word(&bytes[3..]) != 1 {
-            return 0x3_0003;
-        }
-        walk(bytes).bad.map_or(0, |offset| 0x4_0000 + offset as u32)
-    }
-
-    /// Every offset at which an entry with a rule begins.
-    pub fn entries() -> Vec<(usize, usize)> {
-        walk(&[0; IMAGE_LENGTH]).entries
-    }
-
-    /// The bytes are taken one entry after another.
-    struct Walk<'a> {
-        bytes: &'a [u8],
-        at: usize,
-        bad: Option<usize>,
-        entries: Vec<(usize, usize)>,
-    }
-
-    impl<'a> Walk<'a> {
-        fn each(&mut self, count: usize, size: usize, mut good: impl FnMut(usize, &'a [u8]) -> bool) {
-            for i in 0..count {
-                let entry = &self.bytes[self.at..self.at + size];
-                if !good(i, entry) && self.bad.is_none() {
-                    self.bad = Some(self.at);
-                }
-                self.entries.push((self.at, size));
-                self.at += size;
+        // A slice's pointer is never null, and its bytes are as many as its length.
+        unsafe {
+            match question {
+                Question::Image(bytes) => u64::from(peer_image_check(bytes.as_ptr(), bytes.len())),
+                Question::Calendar(seconds) => peer_calendar(*seconds),
+                Question::Age([limit, read, stamp, status, clock]) => u64::from(peer_age_class(*limit, *read, *stamp, *status, *clock)),
             }
-        }
-    }
-
-    fn walk(bytes: &[u8]) -> Walk<'_> {
-        let mut walk = Walk { bytes, at: 5, bad: None, entries: Vec::with_capacity(450) };
-        let mut fitted = 0u16;
-        walk.each(1, 1, |_, e| [1, 2, 3, 4, 5, 6, 10, 12, 15, 20, 30, 60].contains(&e[0]));
-        walk.each(16, 7, |i, e| {
-            fitted |= u16::from(e[0] != 0) << i;
-            input(e)
-        });
-        walk.each(8, 2, |_, e| word(e) & !fitted == 0);
-        walk.each(32, 1, |_, e| e[0] as i8 != -128);
-        walk.each(16, 2, |_, e| slot(e[0], e[1], fitted));
-        walk.each(32, 2, |_, _| true);
-        walk.each(32 * 4, 4, |_, e| window(word(e), word(&e[2..])));
-        walk.each(16 * 8, 1, |_, e| e[0] <= 31 || e[0] == 255);
-        walk.each(8, 4, |_, e| e == [0; 4] || (exists_in_some_year(e[0], e[1]) && exists_in_some_year(e[2], e[3])));
-        walk.each(32, 4, |_, e| e == [0; 4] || holiday(e[0], e[1], word(&e[2..])));
-        walk.each(16, 2, |_, e| e == [255, 255] || ((e[0] <= 7 || e[0] == 255) && e[1] <= 15));
-        walk.each(16, 2, |_, e| e == [255, 255] || (e[0] <= 7 && (e[1] <= 15 || e[1] == 255)));
-        assert_eq!(walk.at, IMAGE_LENGTH);
-        walk
-    }
-
-    fn word(e: &[u8]) -> u16 {
-        u16::from_le_bytes([e[0], e[1]])
-    }
-
-    fn input(e: &[u8]) -> bool {
-        let ratio = 1..=10_000;
-        match e[0] {
-            0 => e[1..] == [0; 6],
-            1 | 2 => 1 <= e[1] && e[1] <= e[2] && ratio.contains(&word(&e[3..])) && ratio.contains(&word(&e[5..])),
-            _ => false,
-        }
-    }
-
-    fn slot(level: u8, index: u8, fitted: u16) -> bool {
-        match level {
-            0 => index < 16 && fitted >> index & 1 == 1,
-            1 => index <= 7,
-            2 => index <= 3,
-            255 => index == 0,
-            _ => false,
-        }
-    }
-
-    fn window(first: u16, end: u16) -> bool {
-        (first, end) == (0, 0) || (first < end && end <= 1_440)
-    }
-
-    fn holiday(day: u8, month: u8, year: u16) -> bool {
-        match year {
-            0 => exists_in_some_year(day, month),
-            1970..=2106 => exists(day, month, i64::from(year)),
-            _ => false,
         }
     }
 }
@@ -412,22 +261,22 @@ impl Compared {
         let questions = std::mem::take(&mut self.waiting);
         let answers = self.archive.answers(&questions);
         for (question, answer) in questions.iter().zip(answers) {
-            self.count(question, answer, rules::answer(question));
+            self.count(question, answer, peer::answer(question));
         }
     }
 
-    fn count(&mut self, question: &Question, archive: u64, rules: u64) {
-        *self.met.entry(case(question, rules)).or_insert(0) += 1;
-        if let (Question::Image(_), 4) = (question, rules >> 16) {
-            self.blamed.insert((rules & 0xffff) as usize);
+    fn count(&mut self, question: &Question, archive: u64, peer: u64) {
+        *self.met.entry(case(question, peer)).or_insert(0) += 1;
+        if let (Question::Image(_), 4) = (question, peer >> 16) {
+            self.blamed.insert((peer & 0xffff) as usize);
         }
-        if archive == rules {
+        if archive == peer {
             self.passed += 1;
             return;
         }
         self.failed += 1;
         if self.failed <= SHOWN {
-            println!("FAILED: {}: the archive answers {:#x}, the rules {:#x}", question, archive, rules);
+            println!("FAILED: {}: the archive answers {:#x}, the peer {:#x}", question, archive, peer);
         }
     }
 
@@ -440,7 +289,7 @@ impl Compared {
         let counts: Vec<String> = CASES.iter().map(|case| format!("{} {}", case, self.met.get(case).unwrap_or(&0))).collect();
         println!("{}", counts.join(", "));
         // the 32 limits have no rule
-        let entries = rules::entries().iter().filter(|(at, _)| !(198..262).contains(at)).count();
+        let entries = entries().iter().filter(|(at, _)| !(198..262).contains(at)).count();
         println!("entries blamed: {} of {}", self.blamed.len(), entries);
         if self.met.len() < CASES.len() || self.blamed.len() < entries {
             println!("FAILED: a case was never met");
@@ -625,7 +474,7 @@ fn edges(compared: &mut Compared, random: &mut Random, image: &mut [u8]) {
             with_bytes(compared, image, at, &word.to_le_bytes());
         }
     }
-    for (at, size) in rules::entries() {
+    for (at, size) in entries() {
         for _ in 0..40 {
             let entry: Vec<u8> = (0..size).map(|_| random.pick(&EDGE_BYTES)).collect();
             with_bytes(compared, image, at, &entry);
@@ -644,7 +493,7 @@ fn lengths(compared: &mut Compared, image: &[u8]) {
 
 /// Good images at random, then with one byte, one entry or two entries damaged.
 fn damaged(compared: &mut Compared, random: &mut Random) {
-    let entries = rules::entries();
+    let entries = entries();
     for _ in 0..15_000 {
         let mut image = good_image(random);
         compared.image(&image);

@@ -1,0 +1,59 @@
+# Takes a case apart, as README.md beside this file says what one is: for its first, second... image the files OUT/1.entries, OUT/1.calls, OUT/1.answers, and OUT/1.looks where
+# looks are asked for. A line that has no place ends it with a message.
+
+function fail(what) { print FILENAME ":" FNR ": " what | "cat 1>&2"; failed = 1; exit 1 }
+
+function entry(text) { entries = entries text "\n" }
+
+# A call, with `ok` as its answer until another is given.
+function call(text) {
+  flush()
+  waiting = text
+  answer = "ok"
+}
+
+function flush() {
+  if (waiting == "") return
+  print waiting > (out "/" n ".calls")
+  print answer > (out "/" n ".answers")
+  if (looks) {
+    print waiting > (out "/" n ".looks")
+    if (waiting ~ /^(start|sample|set|reading|reset)/ && !pulsing) printf "%s", every_register > (out "/" n ".looks")
+  }
+  waiting = ""
+}
+
+BEGIN {
+  count = split("82 32 89 1 90 32 91 16 201 16 202 16 203 16 204 1 206 1", group, " ")
+  for (g = 1; g <= count; g += 2) for (i = 0; i < group[g + 1]; i++) every_register = every_register "register " group[g] " " i "\n"
+  every_register = every_register "fleet\nimage\n"
+}
+/^#/ || $0 == "" { next }
+$0 == "[image]" { flush(); n++; entries = ""; section = "image"; next }
+$0 == "[changes]" { flush(); n++; section = "image"; next }
+$0 == "[calls]" || $0 == "[calls and looks]" {
+  if (section != "image") fail("calls without an image")
+  section = "calls"
+  looks = $0 == "[calls and looks]"
+  printf "%s", entries > (out "/" n ".entries")
+  next
+}
+section == "image" { entry($0); next }
+section != "calls" { fail("neither an entry nor a call") }
+/^= / {
+  if (waiting == "" || answer != "ok") fail("an answer without a call")
+  answer = substr($0, 3)
+  if (waiting ~ /^register/ && answer !~ /^refused/) gsub(/ /, "", answer)
+  next
+}
+$1 == "pulses" {
+  if (NF != 3) fail("pulses COUNT BITS")
+  flush()
+  pulsing = 1
+  for (i = 0; i < $2; i++) { call("sample " $3); call("sample 0") }
+  flush()
+  pulsing = 0
+  next
+}
+{ call($0) }
+END { if (!failed) flush() }

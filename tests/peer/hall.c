@@ -1,0 +1,221 @@
+/*
+ * What the program hall has to answer, by the recorder of recorder.c and the table of lines in README.md:
+ *
+ *     hall IMAGE < CALLS > ANSWERS
+ *
+ * The texts of the errors, and their order, are those of docs/DECISIONS.md, "The program hall".
+ */
+#include "recorder.h"
+
+#include <stdbool.h>
+#include <stdio.h>
+#include <string.h>
+
+enum { LONGEST_LINE = 255, PIECE = 512 };
+
+static uint8_t image[IMAGE_LENGTH + 1]; /* one byte more, so that a longer file is seen to be longer */
+static size_t image_length;
+static struct recorder recorder;
+
+/* ---- The answers. */
+
+static void answer(uint32_t refusal) {
+    if (refusal != 0) printf("refused %u\n", refusal);
+    else printf("ok\n");
+}
+
+static void answer_at(uint32_t refusal) {
+    if (refusal != 0) printf("refused %u at %u\n", refusal >> 16, refusal & 0xffff);
+    else printf("ok\n");
+}
+
+static void answer_bytes(const uint8_t *bytes, size_t count) {
+    for (size_t i = 0; i < count; i++) printf("%02x", bytes[i]);
+    printf("\n");
+}
+
+/* All of one pattern, piece by piece to the first refusal. */
+static void answer_samples(uint16_t bits, uint32_t count) {
+    uint16_t piece[PIECE];
+    uint32_t all = 0, refusal = 0;
+    for (int i = 0; i < PIECE; i++) piece[i] = bits;
+    while (all < count && refusal == 0) {
+        size_t taken;
+        refusal = peer_samples(&recorder, piece, count - all < PIECE ? count - all : PIECE, &taken);
+        all += (uint32_t)taken;
+    }
+    if (refusal != 0) printf("refused %u after %u\n", refusal, all);
+    else printf("ok\n");
+}
+
+static void answer_register(uint32_t group, uint32_t number, uint32_t room) {
+    uint8_t bytes[LONGEST_REGISTER];
+    int given = peer_register(&recorder, group, number, bytes, room);
+    if (given < 0) answer((uint32_t)-given);
+    else answer_bytes(bytes, (size_t)given);
+}
+
+static void answer_image(void) {
+    uint8_t written[IMAGE_LENGTH];
+    uint32_t refusal = peer_write_image(&recorder, written, sizeof written);
+    if (refusal != 0) answer_at(refusal);
+    else answer_bytes(written, sizeof written);
+}
+
+static void answer_date(uint32_t time) {
+    static const char *const names[7] = {"Monday", "Tuesday", "Wednesday", "Thursday", "Friday", "Saturday", "Sunday"};
+    uint64_t m = peer_calendar(time);
+    printf("%s %02u.%02u.%04u %02u:%02u:%02u\n", names[m >> 32 & 255], (unsigned)(m >> 24 & 255), (unsigned)(m >> 16 & 255), (unsigned)(m & 65535),
+           (unsigned)(m >> 40 & 255), (unsigned)(m >> 48 & 255), (unsigned)(m >> 56));
+}
+
+static void answer_fleet(void) {
+    struct fleet f = peer_fleet(&recorder);
+    printf("fitted %u awake %u stale %u invalid %u never %u sum %lld\n", f.fitted, f.count[AWAKE], f.count[STALE], f.count[INVALID], f.count[NEVER],
+           (long long)f.sum);
+}
+
+/* ---- The lines. "Words are separated by one blank, numbers are decimal, and only VALUE may be negative. A line has at most 255 bytes." */
+
+struct word {
+    const char *at;
+    size_t length;
+};
+
+static unsigned long line_number;
+static struct word word[LONGEST_LINE + 1];
+static unsigned words;
+
+static void wrong(const char *what) { printf("error: line %lu: %s\n", line_number, what); }
+static void wrong_count(void) { wrong("wrong count of words"); }
+static void wrong_number(void) { wrong("not a number, or one that does not fit"); }
+
+static void split(const char *line, size_t length) {
+    words = 0;
+    word[words++] = (struct word){line, 0};
+    for (size_t i = 0; i < length; i++) {
+        if (line[i] == ' ') word[words++] = (struct word){line + i + 1, 0};
+        else word[words - 1].length++;
+    }
+}
+
+static bool command(const char *name) { return word[0].length == strlen(name) && memcmp(word[0].at, name, word[0].length) == 0; }
+
+/* One digit or more, left as soon as they are too many for 64 bits. */
+static bool number_in(struct word w, uint64_t most, uint64_t *number) {
+    *number = 0;
+    for (size_t i = 0; i < w.length; i++) {
+        if (w.at[i] < '0' || w.at[i] > '9') return false;
+        *number = *number * 10 + (uint64_t)(w.at[i] - '0');
+        if (*number > most) return false;
+    }
+    return w.length > 0;
+}
+
+static bool number(unsigned k, uint32_t most, uint32_t *to) {
+    uint64_t n;
+    bool good = number_in(word[k], most, &n);
+    *to = (uint32_t)n;
+    return good;
+}
+
+static bool value(unsigned k, int32_t *to) {
+    uint64_t n;
+    bool minus = word[k].length > 0 && word[k].at[0] == '-';
+    struct word digits = {word[k].at + minus, word[k].length - minus};
+    bool good = number_in(digits, minus ? 2147483648u : 2147483647u, &n);
+    *to = (int32_t)(minus ? -(int64_t)n : (int64_t)n);
+    return good;
+}
+
+static void set_clock(uint32_t time) {
+    peer_set_clock(&recorder, time);
+    answer(0);
+}
+
+static void timed_line(void) {
+    uint32_t time;
+    if (words != 2) wrong_count();
+    else if (!number(1, UINT32_MAX, &time)) wrong_number();
+    else if (command("date")) answer_date(time);
+    else if (command("set")) set_clock(time);
+    else answer_at(peer_start(&recorder, image, image_length, time));
+}
+
+static void sample_line(void) {
+    uint32_t bits, count = 1;
+    if (words != 2 && words != 3) wrong_count();
+    else if (!number(1, 65535, &bits) || (words == 3 && !number(2, UINT32_MAX, &count))) wrong_number();
+    else answer_samples((uint16_t)bits, count);
+}
+
+static void reading_line(void) {
+    uint32_t meter, status, seq;
+    int32_t v;
+    if (words != 5) wrong_count();
+    else if (!number(1, 255, &meter) || !value(2, &v) || !number(3, 255, &status) || !number(4, 255, &seq)) wrong_number();
+    else answer(peer_reading(&recorder, meter, v, status, seq));
+}
+
+static void register_line(void) {
+    uint32_t group, n, room = LONGEST_REGISTER;
+    if (words != 3 && words != 4) wrong_count();
+    else if (!number(1, UINT32_MAX, &group) || !number(2, UINT32_MAX, &n) || (words == 4 && !number(3, UINT32_MAX, &room))) wrong_number();
+    else answer_register(group, n, room);
+}
+
+static void reset_bills(void) {
+    peer_reset(&recorder);
+    answer(0);
+}
+
+static void line_of_one_word(void) {
+    if (words != 1) wrong_count();
+    else if (command("image")) answer_image();
+    else if (command("fleet")) answer_fleet();
+    else reset_bills();
+}
+
+static void answer_line(const char *line, size_t length) {
+    line_number++;
+    if (length > LONGEST_LINE) {
+        wrong("longer than 255 bytes");
+        return;
+    }
+    if (length == 0 || line[0] == '#') return;
+    split(line, length);
+    if (command("start") || command("set") || command("date")) timed_line();
+    else if (command("sample")) sample_line();
+    else if (command("reading")) reading_line();
+    else if (command("register")) register_line();
+    else if (command("reset") || command("image") || command("fleet")) line_of_one_word();
+    else wrong("no such command");
+}
+
+/* A last line without an end is a line. */
+static void answer_all(void) {
+    static char line[LONGEST_LINE];
+    size_t length = 0;
+    for (int c = getchar(); c != EOF; c = getchar()) {
+        if (c == '\n') {
+            answer_line(line, length);
+            length = 0;
+        } else {
+            if (length < LONGEST_LINE) line[length] = (char)c;
+            length++;
+        }
+    }
+    if (length > 0) answer_line(line, length);
+}
+
+int main(int count, char **arguments) {
+    FILE *file = count == 2 ? fopen(arguments[1], "rb") : NULL;
+    if (file == NULL) {
+        fprintf(stderr, "usage: hall IMAGE\n");
+        return 2;
+    }
+    image_length = fread(image, 1, sizeof image, file);
+    fclose(file);
+    answer_all();
+    return 0;
+}

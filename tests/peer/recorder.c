@@ -1,0 +1,519 @@
+/* See recorder.h. A comment in quotation marks is a sentence of document 01. */
+#include "recorder.h"
+
+#include <stdbool.h>
+#include <string.h>
+
+/* Where the sections of the image begin. */
+enum {
+    PERIOD_AT = 5, INPUT_AT = 6, SUM_AT = 118, COEFFICIENT_AT = 134, SLOT_AT = 166, LIMIT_AT = 198, WINDOW_AT = 262, WEEKLY_AT = 774,
+    SEASON_AT = 902, HOLIDAY_AT = 934, RULE_AT = 1062, BILL_AT = 1094
+};
+
+enum { MOST_OPEN = 999999999, NONE = 255 };
+
+/* "Numbers in images and registers have the least significant byte first." */
+static uint32_t u16_at(const uint8_t *p) { return p[0] | (uint32_t)p[1] << 8; }
+
+/* ---- The calendar. */
+
+struct moment {
+    uint32_t year, month, day, weekday, minute; /* minute of the day */
+};
+
+static bool leap(uint32_t year) { return year % 4 == 0 && (year % 100 != 0 || year % 400 == 0); }
+
+static bool day_exists(uint32_t day, uint32_t month, uint32_t year) {
+    static const uint8_t lengths[12] = {31, 28, 31, 30, 31, 30, 31, 31, 30, 31, 30, 31};
+    if (month - 1 >= 12 || day == 0) return false;
+    return day <= lengths[month - 1] + (uint32_t)(month == 2 && leap(year));
+}
+
+/* Counted from 1 March, so that the leap day is a year's last and the month is a division. 1 March 1968 is 671 days before 1970; of the centuries only 2100
+   has no leap day. */
+static struct moment moment_of(uint32_t seconds) {
+    uint32_t days = seconds / 86400, day = days + 671 + (days >= 47541), cycle = day % 1461;
+    uint32_t year = cycle / 365 - cycle / 1460, of_year = cycle - 365 * year, month = (5 * of_year + 2) / 153;
+    struct moment m;
+    m.day = of_year - (153 * month + 2) / 5 + 1;
+    m.year = 1968 + 4 * (day / 1461) + year + (month >= 10);
+    m.month = month < 10 ? month + 3 : month - 9;
+    m.weekday = (days + 3) % 7;
+    m.minute = seconds % 86400 / 60;
+    return m;
+}
+
+uint64_t peer_calendar(uint32_t seconds) {
+    struct moment m = moment_of(seconds);
+    return m.year | (uint64_t)m.month << 16 | (uint64_t)m.day << 24 | (uint64_t)m.weekday << 32 | (uint64_t)(m.minute / 60) << 40 |
+           (uint64_t)(m.minute % 60) << 48 | (uint64_t)(seconds % 60) << 56;
+}
+
+/* ---- The image: the rule of each entry. */
+
+/* 1, 2, 3, 4, 5, 6, 10, 12, 15, 20, 30 or 60 minutes: a bit for each. */
+static bool period_good(uint32_t p) { return p <= 60 && (UINT64_C(0x100000004010947e) >> p & 1) != 0; }
+
+static bool input_good(const uint8_t *e) {
+    uint32_t numerator = u16_at(e + 3), denominator = u16_at(e + 5);
+    if (e[0] == 0) return (e[1] | e[2] | numerator | denominator) == 0;
+    return e[0] <= 2 && e[1] >= 1 && e[1] <= e[2] && numerator - 1 < 10000 && denominator - 1 < 10000;
+}
+
+static bool slot_good(const uint8_t *e, uint32_t fitted) {
+    switch (e[0]) {
+    case 0: return e[1] < INPUTS && (fitted >> e[1] & 1) != 0;
+    case 1: return e[1] < SUMS;
+    case 2: return e[1] < FUNCTIONS;
+    case NONE: return e[1] == 0;
+    default: return false;
+    }
+}
+
+static bool window_good(const uint8_t *e) {
+    uint32_t first = u16_at(e), end = u16_at(e + 2);
+    return (first < end && end <= 1440) || (first | end) == 0;
+}
+
+/* A day of some year is one of 2000, a leap year. */
+static bool season_good(const uint8_t *e) {
+    return (e[0] | e[1] | e[2] | e[3]) == 0 || (day_exists(e[0], e[1], 2000) && day_exists(e[2], e[3], 2000));
+}
+
+static bool holiday_good(const uint8_t *e) {
+    uint32_t year = u16_at(e + 2);
+    if (year == 0) return (e[0] | e[1]) == 0 || day_exists(e[0], e[1], 2000);
+    return year - 1970 <= 136 && day_exists(e[0], e[1], year);
+}
+
+static bool rule_good(const uint8_t *e) { return ((e[0] < SEASONS || e[0] == NONE) && e[1] < WEEKLY) || (e[0] & e[1]) == NONE; }
+
+static bool bill_good(const uint8_t *e) { return (e[0] < SUMS && (e[1] < RULES || e[1] == NONE)) || (e[0] & e[1]) == NONE; }
+
+static uint32_t fitted_inputs(const uint8_t *image) {
+    uint32_t fitted = 0;
+    for (int i = 0; i < INPUTS; i++) fitted |= (uint32_t)(image[INPUT_AT + 7 * i] != 0) << i;
+    return fitted;
+}
+
+/* The offset of the first entry that breaks its rule, or 0. Age limits have no rule. */
+static uint32_t first_broken(const uint8_t *image) {
+    uint32_t fitted = fitted_inputs(image), at;
+    if (!period_good(image[PERIOD_AT])) return PERIOD_AT;
+    for (at = INPUT_AT; at < SUM_AT; at += 7) if (!input_good(image + at)) return at;
+    for (at = SUM_AT; at < COEFFICIENT_AT; at += 2) if ((u16_at(image + at) & ~fitted) != 0) return at;
+    for (at = COEFFICIENT_AT; at < SLOT_AT; at++) if (image[at] == 128) return at;
+    for (at = SLOT_AT; at < LIMIT_AT; at += 2) if (!slot_good(image + at, fitted)) return at;
+    for (at = WINDOW_AT; at < WEEKLY_AT; at += 4) if (!window_good(image + at)) return at;
+    for (at = WEEKLY_AT; at < SEASON_AT; at++) if (image[at] >= DAILY && image[at] != NONE) return at;
+    for (at = SEASON_AT; at < HOLIDAY_AT; at += 4) if (!season_good(image + at)) return at;
+    for (at = HOLIDAY_AT; at < RULE_AT; at += 4) if (!holiday_good(image + at)) return at;
+    for (at = RULE_AT; at < BILL_AT; at += 2) if (!rule_good(image + at)) return at;
+    for (at = BILL_AT; at < IMAGE_LENGTH; at += 2) if (!bill_good(image + at)) return at;
+    return 0;
+}
+
+static uint32_t value_refusal(uint32_t at) { return at == 0 ? 0 : VALUE << 16 | at; }
+
+uint32_t peer_image_check(const uint8_t *image, size_t length) {
+    if (length != IMAGE_LENGTH) return LENGTH << 16;
+    if (image[0] != 'K' || image[1] != 'R' || image[2] != 'C') return MARK << 16;
+    if (image[3] != 1 || image[4] != 0) return VERSION << 16 | 3;
+    return value_refusal(first_broken(image));
+}
+
+/* An accepted image read and written is the same bytes, so they are kept. Those of the blank recorder break the period's rule. */
+uint32_t peer_write_image(const struct recorder *r, uint8_t *buffer, size_t room) {
+    uint32_t refusal = value_refusal(first_broken(r->config.image));
+    if (refusal != 0) return refusal;
+    if (room < IMAGE_LENGTH) return NO_ROOM << 16;
+    memcpy(buffer, r->config.image, IMAGE_LENGTH);
+    return 0;
+}
+
+/* ---- The start. */
+
+static void read_inputs(struct config *c) {
+    for (int i = 0; i < INPUTS; i++) {
+        const uint8_t *e = c->image + INPUT_AT + 7 * i;
+        c->fitted |= (uint32_t)(e[0] != 0) << i;
+        c->s1r |= (uint32_t)(e[0] == 2) << i;
+        c->shortest[i] = e[1];
+        c->longest[i] = e[2];
+        c->numerator[i] = (uint16_t)u16_at(e + 3);
+        c->denominator[i] = (uint16_t)u16_at(e + 5);
+        for (int k = 0; k < SUMS; k++) c->names[i][k] = (u16_at(c->image + SUM_AT + 2 * k) >> i & 1) != 0 ? UINT32_MAX : 0;
+    }
+}
+
+static void read_bills(struct config *c) {
+    for (int j = 0; j < BILLS; j++) {
+        c->bill_sum[j] = c->image[BILL_AT + 2 * j];
+        c->bill_rule[j] = c->image[BILL_AT + 2 * j + 1];
+        if (c->bill_rule[j] < RULES) c->used_rules |= 1u << c->bill_rule[j];
+        else if (c->bill_sum[j] < SUMS) c->plain_bills |= 1u << j;
+    }
+}
+
+uint32_t peer_start(struct recorder *r, const uint8_t *image, size_t length, uint32_t time) {
+    uint32_t refusal = peer_image_check(image, length);
+    memset(r, 0, sizeof *r);
+    if (refusal != 0) return refusal;
+    memcpy(r->config.image, image, IMAGE_LENGTH);
+    r->config.period = image[PERIOD_AT] * 60u;
+    read_inputs(&r->config);
+    read_bills(&r->config);
+    r->clock = r->first = time;
+    return 0;
+}
+
+/* ---- The tariff program. */
+
+/* "A daily rule is active in the minutes first to end minus 1 of its windows." */
+static bool daily_active(const struct config *c, uint32_t rule, uint32_t minute) {
+    const uint8_t *w = c->image + WINDOW_AT + 4 * WINDOWS * rule;
+    if (rule >= DAILY) return false;
+    for (int k = 0; k < WINDOWS; k++)
+        if (u16_at(w + 4 * k) <= minute && minute < u16_at(w + 4 * k + 2)) return true;
+    return false;
+}
+
+/* The column of the weekly rules: the weekday, or 7 on a holiday. Unused holidays are on day 0. */
+static uint32_t column_on(const struct config *c, struct moment m) {
+    for (const uint8_t *h = c->image + HOLIDAY_AT; h < c->image + RULE_AT; h += 4)
+        if (h[0] == m.day && h[1] == m.month && (u16_at(h + 2) == 0 || u16_at(h + 2) == m.year)) return 7;
+    return m.weekday;
+}
+
+static uint32_t daily_of(const struct config *c, uint32_t weekly, uint32_t column) { return c->image[WEEKLY_AT + 8 * weekly + column]; }
+
+/* "A season runs from its first to its second date, both included, over New Year if the first is later; unused is never active." */
+static bool season_active(const struct config *c, uint32_t season, struct moment m) {
+    const uint8_t *s = c->image + SEASON_AT + 4 * season;
+    uint32_t first = s[1] << 8 | s[0], second = s[3] << 8 | s[2], date = m.month << 8 | m.day;
+    if ((first | second) == 0) return false;
+    return first <= second ? first <= date && date <= second : first <= date || date <= second;
+}
+
+/* The tariff rules in force, of those that are wanted. */
+static uint32_t force_map(const struct config *c, uint32_t clock, uint32_t wanted) {
+    struct moment m = moment_of(clock);
+    uint32_t column = column_on(c, m), map = 0;
+    for (; wanted != 0; wanted &= wanted - 1) {
+        uint32_t i = (uint32_t)__builtin_ctz(wanted), season = c->image[RULE_AT + 2 * i], weekly = c->image[RULE_AT + 2 * i + 1];
+        if (weekly >= WEEKLY || !daily_active(c, daily_of(c, weekly, column), m.minute)) continue;
+        if (season == NONE || season_active(c, season, m)) map |= 1u << i;
+    }
+    return map;
+}
+
+/* ---- Periods. */
+
+static int64_t level1(const struct recorder *r, uint32_t sum) {
+    int64_t all = 0;
+    for (uint32_t m = u16_at(r->config.image + SUM_AT + 2 * sum); m != 0; m &= m - 1) all += r->units[__builtin_ctz(m)];
+    return all;
+}
+
+static int64_t level2(const struct recorder *r, uint32_t function) {
+    int64_t all = 0;
+    for (uint32_t k = 0; k < SUMS; k++) all += (int8_t)r->config.image[COEFFICIENT_AT + SUMS * function + k] * level1(r, k);
+    return all;
+}
+
+static int64_t chosen(const struct recorder *r, uint32_t level, uint32_t index) {
+    switch (level) {
+    case 0: return r->units[index];
+    case 1: return level1(r, index);
+    case 2: return level2(r, index);
+    default: return 0;
+    }
+}
+
+static void close_period(struct recorder *r, uint8_t state) {
+    for (int i = 0; i < SLOTS; i++) r->values[i] = chosen(r, r->config.image[SLOT_AT + 2 * i], r->config.image[SLOT_AT + 2 * i + 1]);
+    r->period_state = state;
+    r->period_stamp = r->clock;
+    memset(r->units, 0, sizeof r->units);
+}
+
+/* The blank recorder's period is 0 seconds, which has no multiple. */
+static void tick(struct recorder *r) {
+    uint32_t period = r->config.period;
+    r->clock++;
+    r->samples = 0;
+    if (r->clock % 60 == 0) r->on_known = 0;
+    if (period == 0 || r->clock % period != 0) return;
+    close_period(r, r->first % period == 0 ? 2 : 1);
+    r->first = r->clock;
+}
+
+/* ---- Samples. */
+
+/* What the impulses of a sample come to, before any of it is booked. */
+struct impulses {
+    uint32_t lines, with_units; /* masks */
+    uint32_t remainder[INPUTS], units[INPUTS];
+};
+
+/* "Shortest to longest inclusive is an accepted impulse." */
+static void judge(const struct recorder *r, uint32_t ended, struct impulses *p) {
+    const struct config *c = &r->config;
+    p->lines = p->with_units = 0;
+    for (; ended != 0; ended &= ended - 1) {
+        uint32_t i = (uint32_t)__builtin_ctz(ended), run = r->run[i], denominator = c->denominator[i], rest, units = 0;
+        if (run < c->shortest[i] || run > c->longest[i]) continue;
+        p->lines |= 1u << i;
+        rest = r->remainder[i] + c->numerator[i];
+        if (rest >= denominator) {
+            units = rest / denominator;
+            rest -= units * denominator;
+            p->with_units |= 1u << i;
+        }
+        p->remainder[i] = rest;
+        p->units[i] = units;
+    }
+}
+
+/* The bill registers that units go to: those with no rule, and those whose rule is in force. No rule looks at seconds, so they are kept for their minute. It is called
+   seldom and stays out of the loop over samples. */
+__attribute__((noinline)) static void find_bills_on(struct recorder *r) {
+    const struct config *c = &r->config;
+    uint32_t map = force_map(c, r->clock, c->used_rules);
+    r->on = c->plain_bills;
+    for (int j = 0; j < BILLS; j++)
+        if (c->bill_rule[j] < RULES) r->on |= (map >> c->bill_rule[j] & 1) << j;
+    r->on_known = 1;
+}
+
+/* Adds units to the bills, if there is room in all of them. */
+static bool book_bills(struct recorder *r, const struct impulses *p) {
+    const struct config *c = &r->config;
+    uint32_t sums[SUMS] = {0}, m;
+    if (!r->on_known) find_bills_on(r);
+    for (m = p->with_units; m != 0; m &= m - 1) {
+        int i = __builtin_ctz(m);
+        for (int k = 0; k < SUMS; k++) sums[k] += p->units[i] & c->names[i][k];
+    }
+    for (m = r->on; m != 0; m &= m - 1) {
+        int j = __builtin_ctz(m);
+        if (sums[c->bill_sum[j]] > MOST_OPEN - r->open[j]) return false;
+    }
+    for (m = r->on; m != 0; m &= m - 1) {
+        int j = __builtin_ctz(m);
+        r->open[j] += sums[c->bill_sum[j]];
+    }
+    return true;
+}
+
+/* "The first inactive sample after a run of at least 1 ends it." False where a bill register would be too full: then nothing is changed. */
+static bool end_runs(struct recorder *r, uint32_t ended) {
+    struct impulses p;
+    uint32_t m;
+    judge(r, ended, &p);
+    if (p.with_units != 0 && !book_bills(r, &p)) return false;
+    for (m = ended & ~p.lines; m != 0; m &= m - 1) {
+        int i = __builtin_ctz(m);
+        if (r->rejected[i] < UINT16_MAX) r->rejected[i]++;
+        r->run[i] = 0;
+    }
+    for (m = p.lines; m != 0; m &= m - 1) {
+        int i = __builtin_ctz(m);
+        r->remainder[i] = p.remainder[i];
+        r->units[i] += p.units[i];
+        r->run[i] = 0;
+    }
+    return true;
+}
+
+/* A sample with a line that is active, or was. Runs are "counted to 256 and held there". */
+static bool book(struct recorder *r, uint32_t active) {
+    uint32_t ended = r->running & ~active;
+    if (ended != 0 && !end_runs(r, ended)) return false;
+    for (uint32_t m = active; m != 0; m &= m - 1) {
+        int i = __builtin_ctz(m);
+        if (r->run[i] < 256) r->run[i]++;
+    }
+    r->running = active;
+    return true;
+}
+
+/* How many samples from the first on have no line active: eight at once as long as that goes, then one by one. */
+static size_t idle(const uint16_t *bits, size_t n, uint32_t s1r, uint32_t fitted) {
+    const uint64_t each = UINT64_C(0x0001000100010001), open = each * s1r, mask = each * fitted;
+    size_t k = 0;
+    for (; k + 8 <= n; k += 8) {
+        uint64_t four[2];
+        memcpy(four, bits + k, sizeof four);
+        if ((((four[0] ^ open) | (four[1] ^ open)) & mask) != 0) break;
+    }
+    while (k < n && ((bits[k] ^ s1r) & fitted) == 0) k++;
+    return k;
+}
+
+/* With no run to end, idle samples only count, but for the hundredth. */
+uint32_t peer_samples(struct recorder *r, const uint16_t *bits, size_t n, size_t *taken) {
+    const uint32_t s1r = r->config.s1r, fitted = r->config.fitted;
+    for (size_t k = 0; k < n; k++) {
+        if (r->running == 0) {
+            size_t left = 99 - r->samples, some = idle(bits + k, n - k < left ? n - k : left, s1r, fitted);
+            r->samples += (uint32_t)some;
+            k += some;
+            if (k == n) break;
+        }
+        *taken = k;
+        if (r->samples == 99 && r->clock == UINT32_MAX) return CLOCK_END;
+        if (!book(r, (bits[k] ^ s1r) & fitted)) return FULL;
+        if (++r->samples == 100) tick(r);
+    }
+    *taken = n;
+    return 0;
+}
+
+/* ---- Other calls. */
+
+static uint32_t limit_of(const struct recorder *r, uint32_t meter) { return u16_at(r->config.image + LIMIT_AT + 2 * meter); }
+
+uint32_t peer_reading(struct recorder *r, uint32_t meter, int32_t value, uint32_t status, uint32_t seq) {
+    if (meter >= METERS) return NO_METER;
+    if (limit_of(r, meter) == 0) return NOT_FITTED;
+    if (status > 7 || seq > 31) return READING;
+    r->meters[meter] = (struct meter){1, (uint8_t)status, (uint8_t)seq, r->clock, value};
+    return 0;
+}
+
+/* "A clock set closes the period at the old time as short, sets the clock and starts second and period anew." */
+void peer_set_clock(struct recorder *r, uint32_t time) {
+    close_period(r, 1);
+    r->clock = r->first = time;
+    r->samples = 0;
+    r->on_known = 0;
+}
+
+/* "A billing reset notes each open bill amount and the clock as closed and sets the open amount to 0." */
+void peer_reset(struct recorder *r) {
+    for (int j = 0; j < BILLS; j++) {
+        if (r->config.bill_sum[j] >= SUMS) continue;
+        r->closed[j] = r->open[j];
+        r->stamp[j] = r->clock;
+        r->reset[j] = 1;
+        r->open[j] = 0;
+    }
+}
+
+/* ---- Registers. */
+
+/* "Stale if the clock is past its stamp by more than its limit (a stamp ahead of the clock is not stale); else invalid if its IV is set; else awake." */
+static enum age age(uint32_t limit, uint32_t read, uint32_t stamp, uint32_t status, uint32_t clock) {
+    if (read == 0) return NEVER;
+    if ((uint64_t)stamp + limit < clock) return STALE;
+    return (status & 1) != 0 ? INVALID : AWAKE;
+}
+
+uint32_t peer_age_class(uint32_t limit, uint32_t read, uint32_t stamp, uint32_t status, uint32_t clock) {
+    if (limit == 0) return NOT_FITTED;
+    if (status > 7) return READING;
+    return age(limit, read, stamp, status, clock);
+}
+
+static enum age age_of(const struct recorder *r, uint32_t i) {
+    const struct meter *m = &r->meters[i];
+    return age(limit_of(r, i), m->read, m->stamp, m->status, r->clock);
+}
+
+struct fleet peer_fleet(const struct recorder *r) {
+    struct fleet f = {0};
+    for (uint32_t i = 0; i < METERS; i++) {
+        if (limit_of(r, i) == 0) continue;
+        enum age class = age_of(r, i);
+        f.fitted++;
+        f.count[class]++;
+        if (class == AWAKE) f.sum += r->meters[i].value;
+    }
+    return f;
+}
+
+static void put(uint8_t *p, uint64_t x, int n) {
+    for (int i = 0; i < n; i++) p[i] = (uint8_t)(x >> 8 * i);
+}
+
+/* "STATUS 1 (IV set unless awake) ...; never: zeros but STATUS 1." */
+static void put_serial(const struct recorder *r, uint32_t i, uint8_t *b) {
+    const struct meter *m = &r->meters[i];
+    enum age class = age_of(r, i);
+    if (class == NEVER) {
+        memset(b, 0, 10);
+        b[8] = 1;
+        return;
+    }
+    put(b, m->stamp, 4);
+    put(b + 4, (uint32_t)m->value, 4);
+    b[8] = (uint8_t)(m->status | (class != AWAKE));
+    b[9] = m->seq;
+}
+
+static void put_level9(const struct recorder *r, uint32_t i, uint8_t *b) {
+    b[0] = r->period_state;
+    put(b + 1, r->period_stamp, 4);
+    put(b + 5, (uint64_t)r->values[i], 8);
+}
+
+static void put_bill(const struct recorder *r, uint32_t j, uint8_t *b) {
+    b[0] = r->reset[j];
+    put(b + 1, r->open[j], 4);
+    put(b + 5, r->closed[j], 4);
+    put(b + 9, r->stamp[j], 4);
+}
+
+static void put_fleet(const struct recorder *r, uint8_t *b) {
+    struct fleet f = peer_fleet(r);
+    b[0] = f.fitted;
+    memcpy(b + 1, f.count, 4);
+    put(b + 5, (uint64_t)f.sum, 8);
+}
+
+static bool weekly_active(const struct recorder *r, uint32_t rule) {
+    const struct config *c = &r->config;
+    struct moment m = moment_of(r->clock);
+    return daily_active(c, daily_of(c, rule, column_on(c, m)), m.minute);
+}
+
+static const struct layout {
+    uint8_t group, registers, bytes;
+} layouts[] = {{82, 32, 10}, {89, 1, 2}, {90, 32, 1}, {91, 16, 1}, {201, 16, 13}, {202, 16, 13}, {203, 16, 4}, {204, 1, 13}, {206, 1, 5}};
+
+static bool in_use(const struct recorder *r, uint32_t group, uint32_t i) {
+    switch (group) {
+    case 82: return limit_of(r, i) != 0;
+    case 201: return r->config.image[SLOT_AT + 2 * i] != NONE;
+    case 202: return r->config.bill_sum[i] != NONE;
+    case 203: return (r->config.fitted >> i & 1) != 0;
+    default: return true;
+    }
+}
+
+static void put_register(const struct recorder *r, uint32_t group, uint32_t i, uint8_t *b) {
+    switch (group) {
+    case 82: put_serial(r, i, b); break;
+    case 89: put(b, force_map(&r->config, r->clock, 0xffff), 2); break;
+    case 90: b[0] = daily_active(&r->config, i, r->clock / 60 % 1440); break;
+    case 91: b[0] = weekly_active(r, i); break;
+    case 201: put_level9(r, i, b); break;
+    case 202: put_bill(r, i, b); break;
+    case 203: put(b, r->rejected[i], 2); put(b + 2, r->remainder[i], 2); break;
+    case 204: put_fleet(r, b); break;
+    case 206: put(b, r->clock, 4); b[4] = (uint8_t)r->samples; break;
+    }
+}
+
+int peer_register(const struct recorder *r, uint32_t group, uint32_t number, uint8_t *buffer, size_t room) {
+    for (size_t k = 0; k < sizeof layouts / sizeof layouts[0]; k++) {
+        if (layouts[k].group != group) continue;
+        if (number >= layouts[k].registers) return -NO_REGISTER;
+        if (!in_use(r, group, number)) return -NOT_FITTED;
+        if (room < layouts[k].bytes) return -NO_ROOM;
+        put_register(r, group, number, buffer);
+        return layouts[k].bytes;
+    }
+    return -NO_GROUP;
+}

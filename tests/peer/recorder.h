@@ -1,0 +1,90 @@
+/*
+ * Another recorder: the rules of document 01 and the decided points, in plain C. It shares no code and no definition with the crates.
+ *
+ * It serves all comparisons: the program hall is compared with it on random calls, on stored answers and on the cases (hall.c beside this file reads the lines), the C
+ * functions by tests/differential.rs, and bench/run measures the product against it. So it works in place and is written for speed, and it answers every call.
+ */
+#ifndef PEER_RECORDER_H
+#define PEER_RECORDER_H
+
+#include <stddef.h>
+#include <stdint.h>
+
+enum { IMAGE_LENGTH = 1126, LONGEST_REGISTER = 13 };
+enum { INPUTS = 16, SUMS = 8, FUNCTIONS = 4, SLOTS = 16, METERS = 32 };
+enum { DAILY = 32, WINDOWS = 4, WEEKLY = 16, SEASONS = 8, HOLIDAYS = 32, RULES = 16, BILLS = 16 };
+
+/* "Numbers of refusal." 9, NO DATE, is never given: each time of 32 bits has a date. */
+enum { LENGTH = 1, MARK, VERSION, VALUE, CLOCK_END, FULL, NO_METER, NOT_FITTED, READING = 10, NO_GROUP, NO_REGISTER, NO_ROOM };
+
+/* What is fixed: the image, and what samples ask for at every turn, worked out of it once. */
+struct config {
+    uint8_t image[IMAGE_LENGTH];
+    uint32_t period; /* seconds */
+    uint32_t fitted, s1r; /* inputs */
+    uint8_t shortest[INPUTS], longest[INPUTS];
+    uint16_t numerator[INPUTS], denominator[INPUTS];
+    uint32_t names[INPUTS][SUMS]; /* all ones where the sum names the input */
+    uint32_t used_rules;  /* by some bill register */
+    uint32_t plain_bills; /* bill registers in use with no rule */
+    uint8_t bill_sum[BILLS], bill_rule[BILLS];
+};
+
+struct meter {
+    uint8_t read, status, seq;
+    uint32_t stamp;
+    int32_t value;
+};
+
+struct recorder {
+    struct config config;
+    uint32_t clock, samples; /* seconds, and samples in this second */
+    uint32_t first; /* second of the period */
+    uint32_t running; /* lines with a run */
+    uint16_t run[INPUTS], rejected[INPUTS];
+    uint32_t remainder[INPUTS], units[INPUTS]; /* units of the period, which is level 0 */
+    uint32_t open[BILLS], closed[BILLS], stamp[BILLS];
+    uint8_t reset[BILLS];
+    struct meter meters[METERS];
+    uint8_t period_state; /* of the last closed period: 0 none, 1 short, 2 whole */
+    uint32_t period_stamp;
+    int64_t values[SLOTS]; /* level 9 */
+    uint32_t on_known, on; /* the bill registers that units go to in the present minute, if they were asked for */
+};
+
+/* The fitted meters by age class, and what those awake add up to. */
+enum age { AWAKE, STALE, INVALID, NEVER };
+struct fleet {
+    uint8_t fitted, count[4];
+    int64_t sum;
+};
+
+/* 0, or refusal x 65,536 + offset. */
+uint32_t peer_image_check(const uint8_t *image, size_t length);
+
+/* The moment of a second: the year in the low two bytes, then month, day, weekday (0 Monday), hour, minute, second, one byte each. */
+uint64_t peer_calendar(uint32_t seconds);
+
+/* A meter's age class, or 8 for limit 0, then 10 for STATUS above 7. `read` is 0 for no, and any other number for yes. */
+uint32_t peer_age_class(uint32_t limit, uint32_t read, uint32_t stamp, uint32_t status, uint32_t clock);
+
+/* As the image check. A refused start leaves the blank recorder, all zeros, and every call on that has its answer, too. */
+uint32_t peer_start(struct recorder *r, const uint8_t *image, size_t length, uint32_t time);
+
+/* Takes samples to the first refusal, which it answers; 0 where all were taken. */
+uint32_t peer_samples(struct recorder *r, const uint16_t *bits, size_t n, size_t *taken);
+
+/* The refusal, or 0. */
+uint32_t peer_reading(struct recorder *r, uint32_t meter, int32_t value, uint32_t status, uint32_t seq);
+
+void peer_set_clock(struct recorder *r, uint32_t time);
+void peer_reset(struct recorder *r);
+struct fleet peer_fleet(const struct recorder *r);
+
+/* The bytes given, or minus the refusal. */
+int peer_register(const struct recorder *r, uint32_t group, uint32_t number, uint8_t *buffer, size_t room);
+
+/* Writes the configuration's image. 0, or refusal x 65,536 + offset. */
+uint32_t peer_write_image(const struct recorder *r, uint8_t *buffer, size_t room);
+
+#endif

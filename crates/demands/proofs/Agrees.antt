@@ -10,21 +10,19 @@ use lib.Dec.{ltb, leb, eqb}
 use lib.IntN.{ℤ}
 use lib.ListN.{length, getD, set as setList, length-set, length-replicate, getD-replicate}
 use lib.Seq.{getD-set-same, getD-set-other}
-use borrow.Author.Tests.{lt-ltb, ltb-true, ltb-false, leb-true, leb-false, eq-eqb, ne-eqb, eqb-true, eqb-false}
+use borrow.Author.Tests.{ltb-true, ltb-false, leb-true, leb-false, eq-eqb, ne-eqb, eqb-true, eqb-false}
 use Rattle.laws.specs.If.{if_then_else_}
 use Rattle.laws.specs.Tests.{by-test}
 use Rattle.laws.specs.Any.{any, any-cong}
 use Rattle.laws.specs.Total.{total-cong}
 use Rattle.laws.specs.Masks.{bit, bitAt}
 use Rattle.laws.specs.Tables.{table, table-at}
-use Rattle.laws.specs.Answers.{Answer, given, refused}
 use Rattle.calendar.specs.Moments.{momentOf}
-use Rattle.calendar.specs.declared.Moment.{Moment}
 use Rattle.settings.specs.declared.Config.{Config}
 use Rattle.settings.specs.declared.Input.{Input}
-use Rattle.counting.specs.Filter.{inputAt, lineAt, nextRun, accepted, filtered, oneMore, ends, fitting}
+use Rattle.counting.specs.Filter.{inputAt, lineAt, nextRun, accepted, filtered, oneMore}
 use Rattle.counting.specs.Units.{unitsOf, remainderOf, credited, creditIf}
-use Rattle.counting.specs.Bills.{billAt, partOf, namedPart, sumOf, fills, fillsAt, bookedOf, withAmount}
+use Rattle.counting.specs.Bills.{billAt, partOf, namedPart, sumOf, fills, fillsAt, bookedOf}
 use Rattle.sampling.specs.Periods.{multiple, cleared, tickOf}
 use Rattle.sampling.specs.Samples.{activeAt, bookingOf, bookingOn, countedOf, clockEnd, sampleOf}
 use Rattle.recorder.specs.Clock.{setTo, setOf, closedBill, closedBillAt, resetOf}
@@ -34,15 +32,14 @@ use Rattle.recorder.specs.History.{Call, sample, set as set-call, reading, rese
 use Rattle.registers.specs.Fleet.{meterAt}
 use Rattle.counting.specs.declared.Line.{Line}
 use Rattle.counting.specs.declared.Bill.{Bill}
-use Rattle.sampling.specs.declared.Meter.{Meter}
 use Rattle.sampling.specs.declared.State.{State}
 use Rattle.calendar.proofs.Moments.{dated-or-not}
-use Rattle.recorder.proofs.Sound.{config-stays, reached-is-sound}
-use Rattle.demands.specs.Account.{Entry, took, ended, cleared as cleared-entry, heard, Sample, Time, Account, runOf, endsRun, inRange, sampleOn, always, impulsesOf, rejectedIn, whole, inUse, booksAt, feeding, amountOf, lastReset, lastReading, nextSample, dueTo, overfull, sampleNumber, dateNumber, readingNumber, answerOf, stepped, counted, entered, withCall, accountOf}
+use Rattle.recorder.proofs.Sound.{config-stays}
+use Rattle.demands.specs.Account.{Entry, took, ended, cleared as cleared-entry, heard, Sample, Account, runOf, endsRun, inRange, sampleOn, always, impulsesOf, rejectedIn, whole, inUse, booksAt, feeding, amountOf, lastReading, nextSample, dueTo, overfull, sampleNumber, dateNumber, readingNumber, stepped, counted, withCall, accountOf}
 use Rattle.demands.specs.State.{billOf, meterOf}
-use Rattle.demands.specs.Demand2.{reached, numberOf, AnswersOfHistory}
+use Rattle.demands.specs.Demand2.{reached, AnswersOfHistory}
 use Rattle.demands.proofs.Units.{leftOver, units-step, left-step}
-use Rattle.demands.proofs.Keeps.{bringsAt, broughtAt, getsAt, bookedState, due, due-is, due-none, fillsOn, line-after, bill-after, cleared-line}
+use Rattle.demands.proofs.Keeps.{bookedState, due, due-is, due-none, fillsOn, line-after, bill-after, cleared-line}
 
 -- a line has the run, the rejected impulses and the remainder of its input's journal
 pub record LineAgrees (c : Config) (journal : List Entry) (i : ℕ) (line : Line) : Type 0 where

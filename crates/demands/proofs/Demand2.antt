@@ -16,7 +16,7 @@ use Rattle.recorder.specs.Calls.{replyTo}
 use Rattle.recorder.specs.History.{Call, sample, afterAll}
 use Rattle.recorder.proofs.Sound.{config-stays}
 use Rattle.registers.proofs.Laws.{bytes-as-table, given-first}
-use Rattle.demands.specs.Account.{Account, sampleNumber, withCall, accountOf}
+use Rattle.demands.specs.Account.{Account, sampleNumber, accountOf}
 use Rattle.demands.specs.Demand2.{reached, takenIn, endOf, withSamples, RunsOfHistory, TariffOfMoment, Demand2}
 use Rattle.demands.proofs.Starts.{start-is-fresh}
 use Rattle.demands.proofs.Agrees.{answers-of-history}

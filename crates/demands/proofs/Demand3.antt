@@ -1,11 +1,9 @@
 -- The owner's third demand: the recorder's amounts are the account's, and the account's keep the three sentences.
 use mathlib.Core.Path.{_≡_, refl, sym, ap, subst, _∙_}
-use mathlib.Core.Bool.{Bool, true, false, not, _&&_, _||_}
+use mathlib.Core.Bool.{true, false, not, _&&_, _||_}
 use mathlib.Core.List.{List, [], _∷_}
 use Prim.Native.Nat.{ℕ, _+_, _*_, _<_}
-use native.Mathlib.Omega.{arith}
 use lib.Dec.{ltb, leb, eqb}
-use lib.IntN.{ℤ}
 use lib.ListN.{getD}
 use borrow.Author.Tests.{lt-ltb, not-true, not-false, leb-true}
 use Rattle.laws.specs.Tests.{by-test, and-left, and-right, or-right}
@@ -18,7 +16,7 @@ use Rattle.settings.specs.declared.Input.{Input}
 use Rattle.sampling.specs.Periods.{multiple}
 use Rattle.counting.specs.Filter.{inputAt}
 use Rattle.counting.specs.Bills.{registerAt, billAt, namedPart, sumOf}
-use Rattle.recorder.specs.History.{Call, sample, set, reading, reset, afterAll}
+use Rattle.recorder.specs.History.{Call, sample, set, reading, reset}
 use Rattle.counting.specs.declared.Bill.{Bill}
 use Rattle.demands.specs.Account.{Entry, took, Time, Account, since, booksAt, feeding, impulsesOf, amountOf, answerOf, stepped, counted, entered, withCall, accountOf, journalOf}
 use Rattle.demands.specs.Energy.{stretchesOf, inputsIn, scaleOf, energyOf}
@@ -26,7 +24,7 @@ use Rattle.demands.specs.Starts.{Accepted}
 use Rattle.demands.specs.State.{billOf}
 use Rattle.demands.specs.Demand2.{reached}
 use Rattle.demands.specs.Demand3.{openOf, closedOf, InUse, WithoutRule, Near, OpenAmount, PlainBills, AmountsAddUp, AmountsAreTheSums}
-use Rattle.demands.proofs.Sums.{added, added-cong}
+use Rattle.demands.proofs.Sums.{added-cong}
 use Rattle.demands.proofs.Rounding.{near-one, near-all}
 use Rattle.demands.proofs.Agrees.{agrees}
 use Rattle.demands.proofs.Bills.{startOf, start-lt, pays, booked-pays, closedIn, all-booked, shared, booked-always}

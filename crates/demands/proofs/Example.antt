@@ -1,6 +1,5 @@
 -- The example's numbers: the account is computed, and the recorder's numbers are the account's by the theorems.
 use mathlib.Core.Path.{_≡_, refl, ap, _∙_}
-use mathlib.Core.List.{List}
 use Prim.Native.Nat.{ℕ, zero, suc, _<_}
 use native.Mathlib.Nat.{not-suc-le-zero, le-of-suc-le-suc}
 use native.Mathlib.Omega.{arith}
@@ -24,12 +23,12 @@ use Rattle.settings.specs.Rules.{noInput, fittedIn, sumGood}
 use Rattle.settings.specs.Check.{sections, firstBad, checked}
 use Rattle.image.proofs.Found.{good-exactly}
 use Rattle.counting.specs.Filter.{inputAt}
-use Rattle.counting.specs.Bills.{registerAt, namedPart, sumOf}
+use Rattle.counting.specs.Bills.{namedPart, sumOf}
 use Rattle.sampling.specs.Periods.{multiple}
 use Rattle.sampling.specs.Samples.{activeAt}
-use Rattle.recorder.specs.History.{Call, reading}
+use Rattle.recorder.specs.History.{reading}
 use Rattle.recorder.specs.Laws.{Good}
-use Rattle.demands.specs.Account.{Entry, Account, booksAt, feeding, amountOf, overfull, sampleNumber, readingNumber, stepped, counted, withCall, accountOf, journalOf}
+use Rattle.demands.specs.Account.{Account, booksAt, feeding, amountOf, overfull, sampleNumber, readingNumber, stepped, counted, withCall, accountOf}
 use Rattle.demands.specs.Energy.{productOf}
 use Rattle.demands.specs.State.{valueOf, stateOf}
 use Rattle.demands.specs.Shown.{awakeIn, fleetIn}

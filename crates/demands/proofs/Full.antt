@@ -1,15 +1,14 @@
 -- FULL and whole periods inside a history: the account of the example's 6,249 impulses of 160,000 units, by induction over the impulses; the recorder's numbers are the account's.
-use mathlib.Core.Path.{_≡_, refl, sym, ap, ap₂, subst, _∙_}
-use mathlib.Core.Bool.{Bool, true, false, _&&_, not, and-false}
+use mathlib.Core.Path.{_≡_, refl, ap, ap₂, _∙_}
+use mathlib.Core.Bool.{Bool, true, false, _&&_, and-false}
 use mathlib.Core.List.{List, [], _∷_}
-use Prim.Native.Nat.{ℕ, zero, suc, _+_, _-_, _*_, _/_, _%_, _<_, _≤_}
+use Prim.Native.Nat.{ℕ, zero, suc, _+_, _*_, _/_, _%_, _<_, _≤_}
 use native.Mathlib.Nat.{div-one, mul-mod-left}
 use native.Mathlib.Omega.{arith}
 use lib.Dec.{ltb, eqb}
 use lib.IntN.{pos, negsuc}
 use lib.ListN.{replicate, getD-replicate}
 use borrow.Author.Tests.{lt-ltb, le-ltb, ltb-true, eq-eqb, ne-eqb, eqb-true, eqb-false}
-use Rattle.laws.specs.If.{if_then_else_}
 use Rattle.laws.specs.Tests.{by-test}
 use Rattle.laws.specs.First.{first}
 use Rattle.laws.specs.Any.{any, any-at, any-none}
@@ -26,11 +25,10 @@ use Rattle.counting.specs.Filter.{inputAt}
 use Rattle.counting.specs.Bills.{registerAt, namedPart, sumOf}
 use Rattle.sampling.specs.Periods.{multiple}
 use Rattle.sampling.specs.Samples.{activeAt}
-use Rattle.sampling.specs.declared.State.{State}
-use Rattle.recorder.specs.History.{Call, sample, reset}
+use Rattle.recorder.specs.History.{sample, reset}
 use Rattle.recorder.specs.Laws.{Good}
 use Rattle.recorder.specs.declared.Recorder.{Recorder}
-use Rattle.demands.specs.Account.{Entry, took, ended, cleared, Time, Account, Ended, runOf, whole, inPeriod, unitsIn, periodsOf, always, impulsesOf, inUse, booksAt, feeding, amountOf, nextSample, dueTo, overfull, sampleNumber, stepped, counted, withCall, accountOf, journalOf}
+use Rattle.demands.specs.Account.{took, Account, Ended, runOf, whole, inPeriod, unitsIn, periodsOf, always, impulsesOf, inUse, booksAt, feeding, amountOf, nextSample, dueTo, overfull, sampleNumber, stepped, counted, withCall, accountOf}
 use Rattle.demands.specs.Starts.{Accepted}
 use Rattle.demands.specs.State.{valueOf, lastPeriod, stateOf}
 use Rattle.demands.specs.Demand2.{reached}

@@ -8,7 +8,7 @@ use native.Mathlib.Nat.{add-zero, mul-zero}
 use native.Mathlib.Omega.{arith}
 use borrow.Author.Tests.{eqb-true, leb-true}
 use lib.Dec.{eqb, ltb, leb}
-use lib.IntN.{ℤ, pos}
+use lib.IntN.{ℤ}
 use lib.ListN.{length, getD, getD-replicate}
 use Rattle.laws.specs.If.{if_then_else_}
 use Rattle.laws.specs.Tests.{by-test, and-left, and-right, or-right}
@@ -20,7 +20,7 @@ use Rattle.settings.specs.declared.Input.{Input}
 use Rattle.settings.specs.declared.Slot.{Slot}
 use Rattle.counting.specs.Filter.{inputAt, lineAt, filtered}
 use Rattle.counting.specs.Units.{unitsOf, heldSum, credited, creditIf}
-use Rattle.counting.specs.Bills.{billAt, unitAt, sumAt}
+use Rattle.counting.specs.Bills.{sumAt}
 use Rattle.counting.specs.Levels.{level0At, level0, termAt, level2, inputValue, sumValue, functionValue, slotValue, slotValueAt, slotValues}
 use Rattle.sampling.specs.Periods.{multiple, cleared, clearedLines, closedAs, stateOf as stateAs, tickOf}
 use Rattle.sampling.specs.Samples.{activeAt, bookingOn, countedOf, sampleOf}
@@ -29,23 +29,20 @@ use Rattle.recorder.specs.Meters.{readingOf}
 use Rattle.recorder.specs.Calls.{freshState, replyTo}
 use Rattle.recorder.specs.History.{Call, sample, set as set-call, reading, reset, afterAll}
 use Rattle.recorder.specs.Laws.{Good}
-use Rattle.registers.specs.Fleet.{meterAt}
 use Rattle.counting.specs.declared.Line.{Line}
 use Rattle.counting.specs.declared.Bill.{Bill}
 use Rattle.sampling.specs.declared.Meter.{Meter}
 use Rattle.sampling.specs.declared.Period.{Period}
 use Rattle.sampling.specs.declared.State.{State}
-use Rattle.recorder.specs.declared.Recorder.{Recorder}
 use Rattle.calendar.proofs.Moments.{dated-or-not}
 use Rattle.recorder.proofs.Sound.{config-stays, reached-is-sound}
 use Rattle.recorder.proofs.Bounded.{hold-never-acts}
-use Rattle.demands.specs.Account.{Entry, took, ended, Account, always, impulsesOf, unitsIn, whole, inPeriod, periodsOf, lastReading, stepped, counted, withCall, readingNumber, accountOf}
-use Rattle.demands.specs.Starts.{Accepted}
+use Rattle.demands.specs.Account.{Entry, ended, Account, always, impulsesOf, unitsIn, whole, inPeriod, periodsOf, lastReading, stepped, counted, withCall, readingNumber, accountOf}
 use Rattle.demands.specs.State.{lineOf, billOf, meterOf, valueOf, lastPeriod, stateOf}
 use Rattle.demands.specs.Demand2.{reached, StateOfHistory}
 use Rattle.demands.proofs.Units.{leftOver}
-use Rattle.demands.proofs.Keeps.{bringsAt, broughtAt, bookedState, line-after, cleared-line}
-use Rattle.demands.proofs.Agrees.{Agrees, LineAgrees, same-units, longer, booked-agrees, hundredth, sample-case, agrees}
+use Rattle.demands.proofs.Keeps.{bringsAt, bookedState, line-after, cleared-line}
+use Rattle.demands.proofs.Agrees.{Agrees, same-units, longer, booked-agrees, hundredth, sample-case, agrees}
 
 -- units of the running period, and the last closed period
 record Closes (c : Config) (s : State) (a : Account) : Type 0 where

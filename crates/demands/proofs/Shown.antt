@@ -2,36 +2,32 @@
 use mathlib.Core.Path.{_≡_, refl, sym, ap, ap₂, _∙_}
 use mathlib.Core.Bool.{Bool, true, false, true≢false, not, _&&_, cond}
 use mathlib.Core.List.{List, [], _∷_, _++_}
-use Prim.Native.Nat.{ℕ, zero, suc, _+_, _%_, _/_, _<_}
+use Prim.Native.Nat.{ℕ, zero, suc, _+_, _%_, _<_}
 use native.Mathlib.Nat.{le-refl, not-suc-le-zero}
 use native.Mathlib.Omega.{arith}
 use borrow.Author.Tests.{eqb-true, leb-false, not-true}
 use lib.Dec.{ltb, leb, eqb}
 use lib.IntN.{ℤ, pos}
-use lib.ListN.{getD, length, drop}
+use lib.ListN.{getD, drop}
 use Rattle.laws.specs.If.{if_then_else_}
 use Rattle.laws.specs.Tests.{by-test, and-left, and-right}
 use Rattle.laws.specs.Answers.{Answer, given, refused}
-use Rattle.laws.specs.Bytes.{bytesOf}
 use Rattle.laws.specs.Counts.{countOf}
 use Rattle.laws.specs.Masks.{bit}
 use Rattle.laws.specs.SignedTotal.{totalℤ}
-use Rattle.laws.specs.Tables.{table, table-at}
-use Rattle.laws.specs.Total.{total, total-cong}
+use Rattle.laws.specs.Tables.{table-at}
+use Rattle.laws.specs.Total.{total-cong}
 use Rattle.settings.specs.declared.Config.{Config}
 use Rattle.recorder.specs.Meters.{classOf}
-use Rattle.recorder.specs.History.{Call}
 use Rattle.sampling.specs.declared.Meter.{Meter}
-use Rattle.sampling.specs.declared.State.{State}
 use Rattle.recorder.specs.declared.Recorder.{Recorder}
-use Rattle.counting.specs.declared.Bill.{Bill}
 use Rattle.registers.specs.Fleet.{meterAt, meterClass, classAt, hasClass, hasAny, awakeValue, awakeSum, classesOf, fleetOf}
 use Rattle.registers.specs.Contents.{statusShown, serialBytes, meterBytes, mapBytes, resultBytes, dailyBytes, weeklyBytes, level9Bytes, slotBytes, billBytes, inputBytes, fleetBytes, clockBytes}
 use Rattle.registers.specs.Registers.{Group, groups, lookUp, groupOf, registersIn, registersOf, contentsOf, replyOf, registerReply}
 use Rattle.registers.proofs.Laws.{given-first, marked-by-class, unmarked-by-class}
-use Rattle.demands.specs.Account.{Entry, took, ended, cleared, heard, Account, Reading, lastReading, lastReset, inUse, amountOf, accountOf}
-use Rattle.demands.specs.State.{lineOf, billOf, meterOf, lastPeriod, stateOf}
-use Rattle.demands.specs.Shown.{isNever, isStale, isInvalid, isAwake, awakeIn, fleetIn, serialShown, billShown, shown}
+use Rattle.demands.specs.Account.{Entry, took, ended, cleared, heard, Account, Reading, lastReading, lastReset, inUse, accountOf}
+use Rattle.demands.specs.State.{lineOf, billOf, meterOf, stateOf}
+use Rattle.demands.specs.Shown.{isNever, isStale, isInvalid, awakeIn, fleetIn, serialShown, billShown, shown}
 use Rattle.demands.specs.Demand2.{reached, RegistersOfHistory, FleetOfHistory, InvalidMark, AwakeUnmarked}
 use Rattle.demands.proofs.Levels.{state-of-history}
 

@@ -1,5 +1,5 @@
 -- One impulse more: what whole denominators leave of the numerators, and the units that leave them.
-use mathlib.Core.Path.{_≡_, refl, sym, ap, _∙_}
+use mathlib.Core.Path.{_≡_, sym}
 use mathlib.Core.Bool.{Bool, true, false}
 use Prim.Native.Nat.{ℕ, _+_, _-_, _*_, _/_, _%_, _<_, _≤_}
 use native.Mathlib.Nat.{add-mul, one-mul, add-zero, div-zero, div-add-mod', mod-add-mod, mul-add-div-right}

@@ -5,15 +5,14 @@ use mathlib.Core.Bool.{Bool}
 use mathlib.Core.List.{List, [], _∷_, _++_, reverse}
 use Prim.Native.Nat.{ℕ, zero, suc, _<_}
 use lib.Dec.{ltb}
-use lib.IntN.{ℤ, pos, negsuc}
+use lib.IntN.{pos, negsuc}
 use lib.ListN.{replicate}
 use Rattle.laws.specs.Each.{Each}
 use Rattle.laws.specs.Tables.{table}
 use Rattle.tariff.specs.declared.Program.{Program}
 use Rattle.settings.specs.declared.Config.{Config}
-use Rattle.sampling.specs.declared.State.{State}
 use Rattle.recorder.specs.History.{Call, sample, set, reading, reset}
-use Rattle.demands.specs.Account.{Entry, took, ended, cleared, heard, Account, whole, since, booksAt, always, impulsesOf, feeding, lastReset, bookedIn, unitsIn, inPeriod, answerOf, accountOf, journalOf}
+use Rattle.demands.specs.Account.{Entry, took, ended, cleared, heard, Account, whole, since, booksAt, always, impulsesOf, feeding, bookedIn, accountOf, journalOf}
 use Rattle.demands.specs.Energy.{stretchesOf, inputsIn, scaleOf, energyOf, wholeUnitsOf}
 use Rattle.demands.specs.Starts.{Accepted}
 use Rattle.demands.specs.State.{stateOf}

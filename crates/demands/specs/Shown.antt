@@ -3,7 +3,7 @@ use mathlib.Core.Bool.{Bool, not, _&&_, cond}
 use mathlib.Core.List.{List, _++_}
 use Prim.Native.Nat.{ℕ, _+_, _*_, _/_, _%_}
 use lib.Dec.{ltb, eqb}
-use lib.IntN.{ℤ, pos}
+use lib.IntN.{pos}
 use lib.ListN.{getD, replicate}
 use mir.Syntax.{w32, w64}
 use mir.Val.{ofZ}

@@ -1,5 +1,5 @@
 -- The recorder's state as the account of a history spells it out, field by field, in the words of document 01.
-use mathlib.Core.Bool.{Bool, false}
+use mathlib.Core.Bool.{false}
 use mathlib.Core.List.{List, [], _∷_}
 use Prim.Native.Nat.{ℕ, _+_, _*_, _%_, min}
 use lib.Dec.{eqb}

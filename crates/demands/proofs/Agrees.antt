@@ -35,8 +35,8 @@ use Rattle.counting.specs.declared.Bill.{Bill}
 use Rattle.sampling.specs.declared.State.{State}
 use Rattle.calendar.proofs.Moments.{dated-or-not}
 use Rattle.recorder.proofs.Sound.{config-stays}
-use Rattle.demands.specs.Account.{Entry, took, ended, cleared as cleared-entry, heard, Sample, Account, runOf, endsRun, inRange, sampleOn, always, impulsesOf, rejectedIn, whole, inUse, booksAt, feeding, amountOf, lastReading, nextSample, dueTo, overfull, sampleNumber, dateNumber, readingNumber, stepped, counted, withCall, accountOf}
-use Rattle.demands.specs.State.{billOf, meterOf}
+use Rattle.demands.specs.Account.{Entry, took, ended, cleared as cleared-entry, heard, Sample, Account, runOf, endsRun, inRange, sampleOn, always, impulsesOf, rejectedIn, whole, inUse, booksAt, feeding, amountOf, lastReading, nextSample, dueTo, overfull, numberOfSample, numberOfDate, numberOfReading, stepped, counted, withCall, accountOf}
+use Rattle.demands.specs.State.{billIn, meterIn}
 use Rattle.demands.specs.Demand2.{reached, AnswersOfHistory}
 use Rattle.demands.proofs.Units.{leftOver, units-step, left-step}
 use Rattle.demands.proofs.Keeps.{bookedState, due, due-is, due-none, fillsOn, line-after, bill-after, cleared-line}
@@ -54,8 +54,8 @@ pub record Agrees (c : Config) (s : State) (a : Account) : Type 0 where
   pub few : s .samples < 100
   pub first : s .first ≡ a .time .first
   pub lines : (i : ℕ) → i < 16 → LineAgrees c (a .journal) i (lineAt (s .lines) i)
-  pub bills : (j : ℕ) → j < 16 → billAt (s .bills) j ≡ billOf c (a .journal) j
-  pub meters : (i : ℕ) → i < 32 → meterAt (s .meters) i ≡ meterOf (lastReading (a .journal) i)
+  pub bills : (j : ℕ) → j < 16 → billAt (s .bills) j ≡ billIn c (a .journal) j
+  pub meters : (i : ℕ) → i < 32 → meterAt (s .meters) i ≡ meterIn (lastReading (a .journal) i)
   pub all-meters : length (s .meters) ≡ 32
 
 -- Lines
@@ -131,7 +131,7 @@ module _ (c : Config) (s : State) (a : Account) (bits : ℕ) (old : Agrees c s a
 
   -- its open amount is the account's
   amount-same : (j : ℕ) → j < 16 → inUse c j ≡ true → billAt (s .bills) j .amount ≡ amountOf c j (a .journal)
-  unfolding billOf
+  unfolding billIn
   amount-same j l u = ap (λ (b : Bill). b .amount) (old .bills j l) ∙ rw u
 
   fills-same : (j : ℕ) → j < 16 → fillsOn c s bits j ≡ overfull c (a .journal) now j
@@ -153,8 +153,8 @@ module _ (c : Config) (s : State) (a : Account) (bits : ℕ) (old : Agrees c s a
       (λ f. f ∙ sym (ne-eqb (a .time .samples) 99 (λ e. omega (arith, leb-false 99 (s .samples) f, old .samples)))))
 
   -- bill j with its units
-  bill-agrees : (j : ℕ) → j < 16 → bookingOn c s bits .full ≡ false → billAt (bookingOn c s bits .bills) j ≡ billOf c (longer a bits) j
-  unfolding billOf amountOf
+  bill-agrees : (j : ℕ) → j < 16 → bookingOn c s bits .full ≡ false → billAt (bookingOn c s bits .bills) j ≡ billIn c (longer a bits) j
+  unfolding billIn amountOf
   bill-agrees j l e =
       bill-after c s bits j l e
       ∙ by-test (inUse c j)
@@ -184,8 +184,8 @@ unfolding cleared
 cleared-agrees c journal state stamp i line old = record { run = old .run; rejected = old .rejected; remainder = old .remainder }
 
 -- the end of a period moves no bill
-ended-bill : (c : Config) (journal : List Entry) (state stamp j : ℕ) → billOf c (ended state stamp ∷ journal) j ≡ billOf c journal j
-unfolding billOf amountOf
+ended-bill : (c : Config) (journal : List Entry) (state stamp j : ℕ) → billIn c (ended state stamp ∷ journal) j ≡ billIn c journal j
+unfolding billIn amountOf
 ended-bill c journal state stamp j = refl
 
 -- the hundredth sample
@@ -249,8 +249,8 @@ SampleCase c s a bits s′ a′ =
     ⊎ ((bookingOn c s bits .full ≡ false) × (s′ ≡ countedOf c (bookedState c s bits)) × (a′ ≡ counted c (a .time) (longer a bits)))
 
 pub sample-case : (c : Config) (s : State) (a : Account) (bits : ℕ) → Agrees c s a
-    → (replyTo s (sampleOf c s bits) .number ≡ sampleNumber c a bits) × SampleCase c s a bits (replyTo s (sampleOf c s bits) .state) (withCall c a (sample bits))
-unfolding sampleOf sampleNumber withCall
+    → (replyTo s (sampleOf c s bits) .number ≡ numberOfSample c a bits) × SampleCase c s a bits (replyTo s (sampleOf c s bits) .state) (withCall c a (sample bits))
+unfolding sampleOf numberOfSample withCall
 sample-case c s a bits old =
     by-test (clockEnd s)
     (λ t. rw (t, sym (end-same c s a bits old) ∙ t) (refl, inl (refl, refl)))
@@ -269,7 +269,7 @@ sample-agrees c s a bits old =
 
 -- A clock set
 
-pub set-number : (c : Config) (s : State) (seconds : ℕ) → replyTo s (setOf c s seconds) .number ≡ dateNumber (momentOf seconds)
+pub set-number : (c : Config) (s : State) (seconds : ℕ) → replyTo s (setOf c s seconds) .number ≡ numberOfDate (momentOf seconds)
 unfolding setOf
 set-number c s seconds = ⊎-elim (λ d. rw (d .1)) (λ e. rw e) (dated-or-not seconds)
 
@@ -294,8 +294,8 @@ set-agrees c s a seconds old =
 
 -- A reading
 
-pub reading-number : (c : Config) (s : State) (meter : ℕ) (v : ℤ) (status seq : ℕ) → replyTo s (readingOf c s meter v status seq) .number ≡ readingNumber c meter status seq
-unfolding readingOf readingNumber
+pub reading-number : (c : Config) (s : State) (meter : ℕ) (v : ℤ) (status seq : ℕ) → replyTo s (readingOf c s meter v status seq) .number ≡ numberOfReading c meter status seq
+unfolding readingOf numberOfReading
 reading-number c s meter v status seq =
     by-test (ltb 31 meter) (λ t. rw t)
     (λ f.
@@ -305,7 +305,7 @@ reading-number c s meter v status seq =
 -- the meters with a reading
 heard-meter : (c : Config) (s : State) (a : Account) (meter : ℕ) (v : ℤ) (status seq i : ℕ) → Agrees c s a → meter < 32 → i < 32
     → meterAt (setList (s .meters) meter (record { read = true; stamp = s .clock; value = v; status = status; seq = seq })) i
-    ≡ meterOf (lastReading (heard (a .time .second) meter v status seq ∷ a .journal) i)
+    ≡ meterIn (lastReading (heard (a .time .second) meter v status seq ∷ a .journal) i)
 heard-meter c s a meter v status seq i old m l =
     by-test (eqb meter i)
     (λ t.
@@ -313,13 +313,13 @@ heard-meter c s a meter v status seq i old m l =
     rw (t, ← eqb-true meter i t, ← old .clock) (getD-set-same (s .meters) meter _ _ there))
     (λ f. rw f (getD-set-other (s .meters) meter i _ _ (λ e. eqb-false meter i f (sym e)) ∙ old .meters i l))
 
-heard-bill : (c : Config) (journal : List Entry) (stamp meter : ℕ) (v : ℤ) (status seq j : ℕ) → billOf c (heard stamp meter v status seq ∷ journal) j ≡ billOf c journal j
-unfolding billOf amountOf
+heard-bill : (c : Config) (journal : List Entry) (stamp meter : ℕ) (v : ℤ) (status seq j : ℕ) → billIn c (heard stamp meter v status seq ∷ journal) j ≡ billIn c journal j
+unfolding billIn amountOf
 heard-bill c journal stamp meter v status seq j = refl
 
 pub reading-agrees : (c : Config) (s : State) (a : Account) (meter : ℕ) (v : ℤ) (status seq : ℕ) → Agrees c s a
     → Agrees c (replyTo s (readingOf c s meter v status seq) .state) (withCall c a (reading meter v status seq))
-unfolding readingOf readingNumber withCall
+unfolding readingOf numberOfReading withCall
 reading-agrees c s a meter v status seq old =
     by-test (ltb 31 meter) (λ t. rw t old)
     (λ f.
@@ -342,8 +342,8 @@ reading-agrees c s a meter v status seq old =
 -- A billing reset
 
 reset-bill : (c : Config) (s : State) (a : Account) (j : ℕ) → Agrees c s a → j < 16
-    → billAt (table 16 (closedBillAt (c .registers) (s .bills) (s .clock))) j ≡ billOf c (cleared-entry (a .time .second) ∷ a .journal) j
-unfolding closedBillAt closedBill billOf amountOf
+    → billAt (table 16 (closedBillAt (c .registers) (s .bills) (s .clock))) j ≡ billIn c (cleared-entry (a .time .second) ∷ a .journal) j
+unfolding closedBillAt closedBill billIn amountOf
 reset-bill c s a j old l =
     table-at 16 (closedBillAt (c .registers) (s .bills) (s .clock)) j _ l
     ∙ by-test (inUse c j) (λ u. rw (u, old .bills j l, u, old .clock)) (λ f. rw (f, old .bills j l, f))
@@ -367,8 +367,8 @@ reset-agrees c s a old =
 fresh-remainder : (x : Input) → 0 ≡ leftOver x 0
 fresh-remainder x = by-test (eqb (x .denominator) 0) (λ t. rw t) (λ f. rw (f, zero-mul, zero-mod))
 
-fresh-bill : (c : Config) (j : ℕ) → record { amount = 0; closed = 0; stamp = 0; reset = false } ≡ billOf c [] j
-unfolding billOf amountOf
+fresh-bill : (c : Config) (j : ℕ) → record { amount = 0; closed = 0; stamp = 0; reset = false } ≡ billIn c [] j
+unfolding billIn amountOf
 fresh-bill c j = by-test (inUse c j) (λ u. rw u) (λ f. rw f)
 
 fresh-agrees : (c : Config) (time : ℕ) → Agrees c (freshState time) (accountOf c time [])
@@ -414,11 +414,11 @@ agrees c time (reset ∷ earlier) =
 pub answers-of-history : AnswersOfHistory
 answers-of-history c time calls (sample bits) =
     let s = reached c time calls .state in
-    subst (λ (k : Config). replyTo s (sampleOf k s bits) .number ≡ sampleNumber c (accountOf c time calls) bits) (sym (config-stays c time calls))
+    subst (λ (k : Config). replyTo s (sampleOf k s bits) .number ≡ numberOfSample c (accountOf c time calls) bits) (sym (config-stays c time calls))
     (sample-case c s (accountOf c time calls) bits (agrees c time calls) .0)
 answers-of-history c time calls (set-call seconds) = set-number (reached c time calls .config) (reached c time calls .state) seconds
 answers-of-history c time calls (reading meter v status seq) =
     let s = reached c time calls .state in
-    subst (λ (k : Config). replyTo s (readingOf k s meter v status seq) .number ≡ readingNumber c meter status seq) (sym (config-stays c time calls))
+    subst (λ (k : Config). replyTo s (readingOf k s meter v status seq) .number ≡ numberOfReading c meter status seq) (sym (config-stays c time calls))
     (reading-number c s meter v status seq)
 answers-of-history c time calls reset = refl

@@ -21,7 +21,7 @@ use Rattle.counting.specs.declared.Bill.{Bill}
 use Rattle.demands.specs.Account.{Entry, took, Time, Account, since, booksAt, feeding, impulsesOf, amountOf, answerOf, stepped, counted, entered, withCall, accountOf, journalOf}
 use Rattle.demands.specs.Energy.{stretchesOf, inputsIn, scaleOf, energyOf}
 use Rattle.demands.specs.Starts.{Accepted}
-use Rattle.demands.specs.State.{billOf}
+use Rattle.demands.specs.State.{billIn}
 use Rattle.demands.specs.Demand2.{reached}
 use Rattle.demands.specs.Demand3.{openOf, closedOf, InUse, WithoutRule, Near, OpenAmount, PlainBills, AmountsAddUp, AmountsAreTheSums}
 use Rattle.demands.proofs.Sums.{added-cong}
@@ -62,7 +62,7 @@ always-books c j none second = rw none
 -- The recorder's amounts are the account's
 
 pub open-is : (c : Config) (time : ℕ) (calls : List Call) (j : ℕ) → InUse c j → openOf c time j calls ≡ amountOf c j (journalOf c time calls)
-unfolding billOf
+unfolding billIn
 open-is c time calls j used = ap (λ (b : Bill). b .amount) (agrees c time calls .bills j (used .0)) ∙ rw (lt-ltb (registerAt (c .registers) j .sum) 8 (used .1))
 
 -- no call but a reset closes a bill
@@ -82,7 +82,7 @@ module _ (c : Config) (j : ℕ) where
 -- a reset closes the open amount
 pub noted-is : (c : Config) (time : ℕ) (earlier : List Call) (j : ℕ) → InUse c j
     → billAt (reached c time (reset ∷ earlier) .state .bills) j .closed ≡ amountOf c j (journalOf c time earlier)
-unfolding withCall billOf accountOf
+unfolding withCall billIn accountOf
 noted-is c time earlier j used =
     ap (λ (b : Bill). b .closed) (agrees c time (reset ∷ earlier) .bills j (used .0)) ∙ rw (lt-ltb (registerAt (c .registers) j .sum) 8 (used .1))
 

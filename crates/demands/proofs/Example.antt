@@ -28,9 +28,9 @@ use Rattle.sampling.specs.Periods.{multiple}
 use Rattle.sampling.specs.Samples.{activeAt}
 use Rattle.recorder.specs.History.{reading}
 use Rattle.recorder.specs.Laws.{Good}
-use Rattle.demands.specs.Account.{Account, booksAt, feeding, amountOf, overfull, sampleNumber, readingNumber, stepped, counted, withCall, accountOf}
+use Rattle.demands.specs.Account.{Account, booksAt, feeding, amountOf, overfull, numberOfSample, numberOfReading, stepped, counted, withCall, accountOf}
 use Rattle.demands.specs.Energy.{productOf}
-use Rattle.demands.specs.State.{valueOf, stateOf}
+use Rattle.demands.specs.State.{valueOf, stateIn}
 use Rattle.demands.specs.Shown.{awakeIn, fleetIn}
 use Rattle.demands.specs.Demand3.{openOf, closedOf, InUse, OnSum}
 use Rattle.demands.specs.Example.{twoMakers, start, calls, account, byDay, dayAndNightThrice, firstTwo, Numbers, Needed}
@@ -44,7 +44,7 @@ unfolding checked firstBad sections first fittedIn sumGood any bitAt
 is-good = good-exactly twoMakers .0 refl
 
 happened : accountOf twoMakers start calls ≡ account
-unfolding first any total span maskOf bitAt table monthLength yearLength yearDay momentOf windowActive dailyActive fitsAt firstHoliday columnOn referenceAt weeklyActive inSeason seasonActive applies inForce forceMap forceOf namedPart sumOf multiple activeAt booksAt feeding amountOf overfull sampleNumber readingNumber stepped counted withCall accountOf
+unfolding first any total span maskOf bitAt table monthLength yearLength yearDay momentOf windowActive dailyActive fitsAt firstHoliday columnOn referenceAt weeklyActive inSeason seasonActive applies inForce forceMap forceOf namedPart sumOf multiple activeAt booksAt feeding amountOf overfull numberOfSample numberOfReading stepped counted withCall accountOf
 happened = refl
 
 -- a longest run of the example is a byte
@@ -85,7 +85,7 @@ closed-as : table 8 (λ j. closedOf twoMakers start j calls) ≡ table 8 (λ j. 
 closed-as = table-cong 8 _ _ (λ j l. closed-is twoMakers start calls j (in-use j l) ∙ ap (λ (a : Account). closedIn twoMakers j (a .journal)) happened)
 
 pub numbers : Numbers
-unfolding first any total span maskOf bitAt table monthLength yearLength yearDay momentOf windowActive dailyActive fitsAt firstHoliday columnOn referenceAt weeklyActive inSeason seasonActive applies inForce forceMap forceOf namedPart sumOf multiple activeAt booksAt feeding amountOf overfull sampleNumber readingNumber stepped counted withCall accountOf productOf totalℤ valueOf stateOf awakeIn fleetIn
+unfolding first any total span maskOf bitAt table monthLength yearLength yearDay momentOf windowActive dailyActive fitsAt firstHoliday columnOn referenceAt weeklyActive inSeason seasonActive applies inForce forceMap forceOf namedPart sumOf multiple activeAt booksAt feeding amountOf overfull numberOfSample numberOfReading stepped counted withCall accountOf productOf totalℤ valueOf stateIn awakeIn fleetIn
 numbers =
     record {
       accepted = record { good = is-good; bytes = runs-bytes };
@@ -106,7 +106,7 @@ numbers =
     }
 
 pub needed : Needed
-unfolding first any total span maskOf bitAt table monthLength yearLength yearDay momentOf windowActive dailyActive fitsAt firstHoliday columnOn referenceAt weeklyActive inSeason seasonActive applies inForce forceMap forceOf namedPart sumOf multiple activeAt booksAt feeding amountOf overfull sampleNumber readingNumber stepped counted withCall accountOf productOf
+unfolding first any total span maskOf bitAt table monthLength yearLength yearDay momentOf windowActive dailyActive fitsAt firstHoliday columnOn referenceAt weeklyActive inSeason seasonActive applies inForce forceMap forceOf namedPart sumOf multiple activeAt booksAt feeding amountOf overfull numberOfSample numberOfReading stepped counted withCall accountOf productOf
 needed =
     record {
       few = open-is twoMakers start byDay 2 (in-use 2 (omega arith));

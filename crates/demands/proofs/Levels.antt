@@ -37,8 +37,8 @@ use Rattle.sampling.specs.declared.State.{State}
 use Rattle.calendar.proofs.Moments.{dated-or-not}
 use Rattle.recorder.proofs.Sound.{config-stays, reached-is-sound}
 use Rattle.recorder.proofs.Bounded.{hold-never-acts}
-use Rattle.demands.specs.Account.{Entry, ended, Account, always, impulsesOf, unitsIn, whole, inPeriod, periodsOf, lastReading, stepped, counted, withCall, readingNumber, accountOf}
-use Rattle.demands.specs.State.{lineOf, billOf, meterOf, valueOf, lastPeriod, stateOf}
+use Rattle.demands.specs.Account.{Entry, ended, Account, always, impulsesOf, unitsIn, whole, inPeriod, periodsOf, lastReading, stepped, counted, withCall, numberOfReading, accountOf}
+use Rattle.demands.specs.State.{lineIn, billIn, meterIn, valueOf, lastPeriod, stateIn}
 use Rattle.demands.specs.Demand2.{reached, StateOfHistory}
 use Rattle.demands.proofs.Units.{leftOver}
 use Rattle.demands.proofs.Keeps.{bringsAt, bookedState, line-after, cleared-line}
@@ -172,7 +172,7 @@ set-closes c s a seconds good both old =
 
 reading-closes : (c : Config) (s : State) (a : Account) (meter : ℕ) (v : ℤ) (status seq : ℕ) → Closes c s a
     → Closes c (replyTo s (readingOf c s meter v status seq) .state) (withCall c a (reading meter v status seq))
-unfolding readingOf readingNumber withCall
+unfolding readingOf numberOfReading withCall
 reading-closes c s a meter v status seq old =
     by-test (ltb 31 meter) (λ t. rw t old)
     (λ f.
@@ -248,8 +248,8 @@ state-by : (s : State) (clock samples first : ℕ) (lines : List Line) (bills : 
     → s ≡ record { clock = clock; samples = samples; first = first; lines = lines; bills = bills; meters = meters; closed = closed }
 state-by s clock samples first lines bills meters closed a b d e f g h = rw (← a, ← b, ← d, ← e, ← f, ← g, ← h)
 
-line-is : (c : Config) → Good c → (s : State) (a : Account) → Agrees c s a → Closes c s a → (i : ℕ) → i < 16 → lineAt (s .lines) i ≡ lineOf c (a .journal) i
-unfolding lineOf sections
+line-is : (c : Config) → Good c → (s : State) (a : Account) → Agrees c s a → Closes c s a → (i : ℕ) → i < 16 → lineAt (s .lines) i ≡ lineIn c (a .journal) i
+unfolding lineIn sections
 line-is c good s a both old i l =
     let y = both .lines i l in
     let left : lineAt (s .lines) i .remainder ≡ impulsesOf always i (whole c (a .journal)) * inputAt (c .inputs) i .numerator % inputAt (c .inputs) i .denominator =
@@ -260,17 +260,17 @@ line-is c good s a both old i l =
 list-is : {A : Type 0} (n : ℕ) (xs : List A) (d : A) (f : ℕ → A) → length xs ≡ n → ((i : ℕ) → i < n → getD xs i d ≡ f i) → xs ≡ table n f
 list-is n xs d f long each = sym (table-self n xs d long) ∙ table-cong n _ f each
 
-pub state-is : (c : Config) → Good c → (time : ℕ) (calls : List Call) → reached c time calls .state ≡ stateOf c (accountOf c time calls)
-unfolding stateOf
+pub state-is : (c : Config) → Good c → (time : ℕ) (calls : List Call) → reached c time calls .state ≡ stateIn c (accountOf c time calls)
+unfolding stateIn
 state-is c good time calls =
     let s = reached c time calls .state in
     let a = accountOf c time calls in
     let both = agrees c time calls in
     let old = closes c good time calls in
     let sound = reached-is-sound c time calls in
-    let lines : s .lines ≡ table 16 (lineOf c (a .journal)) = list-is 16 (s .lines) _ _ (sound .lines .sixteen) (line-is c good s a both old) in
-    let bills : s .bills ≡ table 16 (billOf c (a .journal)) = list-is 16 (s .bills) _ _ (sound .bills .sixteen) (both .bills) in
-    let meters : s .meters ≡ table 32 (λ i. meterOf (lastReading (a .journal) i)) = list-is 32 (s .meters) _ _ (sound .meters) (both .meters) in
+    let lines : s .lines ≡ table 16 (lineIn c (a .journal)) = list-is 16 (s .lines) _ _ (sound .lines .sixteen) (line-is c good s a both old) in
+    let bills : s .bills ≡ table 16 (billIn c (a .journal)) = list-is 16 (s .bills) _ _ (sound .bills .sixteen) (both .bills) in
+    let meters : s .meters ≡ table 32 (λ i. meterIn (lastReading (a .journal) i)) = list-is 32 (s .meters) _ _ (sound .meters) (both .meters) in
     state-by s _ _ _ _ _ _ _ (both .clock) (both .samples) (both .first) lines bills meters (old .closed)
 
 pub state-of-history : StateOfHistory

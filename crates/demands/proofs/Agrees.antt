@@ -112,6 +112,13 @@ module _ (c : Config) (journal : List Entry) (bits second i : ℕ) (line : Line)
 
 -- A sample
 
+-- the hundredth sample
+pub hundredth : (c : Config) (s : State) (a : Account) → Agrees c s a → leb 99 (s .samples) ≡ eqb (a .time .samples) 99
+hundredth c s a old =
+    by-test (leb 99 (s .samples))
+    (λ t. t ∙ sym (eq-eqb (a .time .samples) 99 (omega (arith, leb-true 99 (s .samples) t, old .samples, old .few))))
+    (λ f. f ∙ sym (ne-eqb (a .time .samples) 99 (λ e. omega (arith, leb-false 99 (s .samples) f, old .samples))))
+
 -- the journal with a sample
 abbrev pub longer : Account → ℕ → List Entry
 longer a bits = took bits (a .time .second) ∷ a .journal
@@ -146,11 +153,7 @@ module _ (c : Config) (s : State) (a : Account) (bits : ℕ) (old : Agrees c s a
   full-same = any-cong 16 (fillsOn c s bits) (overfull c (a .journal) now) fills-same
 
   end-same : clockEnd s ≡ (eqb (a .time .second) 4_294_967_295 && eqb (a .time .samples) 99)
-  end-same =
-      ap₂ _&&_ (ap (λ (n : ℕ). eqb n 4_294_967_295) (old .clock))
-      (by-test (leb 99 (s .samples))
-      (λ t. t ∙ sym (eq-eqb (a .time .samples) 99 (omega (arith, leb-true 99 (s .samples) t, old .samples, old .few))))
-      (λ f. f ∙ sym (ne-eqb (a .time .samples) 99 (λ e. omega (arith, leb-false 99 (s .samples) f, old .samples)))))
+  end-same = ap₂ _&&_ (ap (λ (n : ℕ). eqb n 4_294_967_295) (old .clock)) (hundredth c s a old)
 
   -- bill j with its units
   bill-agrees : (j : ℕ) → j < 16 → bookingOn c s bits .full ≡ false → billAt (bookingOn c s bits .bills) j ≡ billIn c (longer a bits) j
@@ -187,13 +190,6 @@ cleared-agrees c journal state stamp i line old = record { run = old .run; rejec
 ended-bill : (c : Config) (journal : List Entry) (state stamp j : ℕ) → billIn c (ended state stamp ∷ journal) j ≡ billIn c journal j
 unfolding billIn amountOf
 ended-bill c journal state stamp j = refl
-
--- the hundredth sample
-pub hundredth : (c : Config) (s : State) (a : Account) → Agrees c s a → leb 99 (s .samples) ≡ eqb (a .time .samples) 99
-hundredth c s a old =
-    by-test (leb 99 (s .samples))
-    (λ t. t ∙ sym (eq-eqb (a .time .samples) 99 (omega (arith, leb-true 99 (s .samples) t, old .samples, old .few))))
-    (λ f. f ∙ sym (ne-eqb (a .time .samples) 99 (λ e. omega (arith, leb-false 99 (s .samples) f, old .samples))))
 
 tick-agrees : (c : Config) (s : State) (a : Account) → Agrees c s a → Agrees c (tickOf c s) (stepped c (a .time) (a .journal))
 unfolding tickOf stepped
@@ -261,7 +257,7 @@ sample-case c s a bits old =
     (λ h. rw (f, g, h, sym (full-same c s a bits old) ∙ h) (refl, inr (refl, refl, refl))))
 
 -- so they agree after it
-pub sample-agrees : (c : Config) (s : State) (a : Account) (bits : ℕ) → Agrees c s a → Agrees c (replyTo s (sampleOf c s bits) .state) (withCall c a (sample bits))
+sample-agrees : (c : Config) (s : State) (a : Account) (bits : ℕ) → Agrees c s a → Agrees c (replyTo s (sampleOf c s bits) .state) (withCall c a (sample bits))
 sample-agrees c s a bits old =
     ⊎-elim (λ e. rw (e .0, e .1) old)
     (λ e. rw (e .1, e .2) (counted-agrees c (bookedState c s bits) (record { time = a .time; journal = longer a bits }) (booked-agrees c s a bits old (e .0))))
@@ -273,7 +269,7 @@ pub set-number : (c : Config) (s : State) (seconds : ℕ) → replyTo s (setOf c
 unfolding setOf
 set-number c s seconds = ⊎-elim (λ d. rw (d .1)) (λ e. rw e) (dated-or-not seconds)
 
-pub set-agrees : (c : Config) (s : State) (a : Account) (seconds : ℕ) → Agrees c s a → Agrees c (replyTo s (setOf c s seconds) .state) (withCall c a (set-call seconds))
+set-agrees : (c : Config) (s : State) (a : Account) (seconds : ℕ) → Agrees c s a → Agrees c (replyTo s (setOf c s seconds) .state) (withCall c a (set-call seconds))
 unfolding setOf setTo withCall
 set-agrees c s a seconds old =
     ⊎-elim
@@ -317,7 +313,7 @@ heard-bill : (c : Config) (journal : List Entry) (stamp meter : ℕ) (v : ℤ) (
 unfolding billIn amountOf
 heard-bill c journal stamp meter v status seq j = refl
 
-pub reading-agrees : (c : Config) (s : State) (a : Account) (meter : ℕ) (v : ℤ) (status seq : ℕ) → Agrees c s a
+reading-agrees : (c : Config) (s : State) (a : Account) (meter : ℕ) (v : ℤ) (status seq : ℕ) → Agrees c s a
     → Agrees c (replyTo s (readingOf c s meter v status seq) .state) (withCall c a (reading meter v status seq))
 unfolding readingOf numberOfReading withCall
 reading-agrees c s a meter v status seq old =
@@ -348,7 +344,7 @@ reset-bill c s a j old l =
     table-at 16 (closedBillAt (c .registers) (s .bills) (s .clock)) j _ l
     ∙ by-test (inUse c j) (λ u. rw (u, old .bills j l, u, old .clock)) (λ f. rw (f, old .bills j l, f))
 
-pub reset-agrees : (c : Config) (s : State) (a : Account) → Agrees c s a → Agrees c (resetOf c s) (withCall c a reset)
+reset-agrees : (c : Config) (s : State) (a : Account) → Agrees c s a → Agrees c (resetOf c s) (withCall c a reset)
 unfolding resetOf withCall
 reset-agrees c s a old =
     record {
@@ -387,29 +383,38 @@ fresh-agrees c time =
 
 -- All calls
 
-pub agrees : (c : Config) (time : ℕ) (calls : List Call) → Agrees c (reached c time calls .state) (accountOf c time calls)
+-- a call on a state, under the configuration that the start gave
+abbrev pub stateAfter : Config → State → Call → State
+stateAfter c s (sample bits) = replyTo s (sampleOf c s bits) .state
+stateAfter c s (set-call seconds) = replyTo s (setOf c s seconds) .state
+stateAfter c s (reading meter v status seq) = replyTo s (readingOf c s meter v status seq) .state
+stateAfter c s reset = resetOf c s
+
+one-more : (c : Config) (time : ℕ) (earlier : List Call) (call : Call) → reached c time (call ∷ earlier) .state ≡ stateAfter c (reached c time earlier .state) call
+unfolding afterAll
+one-more c time earlier (sample bits) = ap (λ (k : Config). stateAfter k (reached c time earlier .state) (sample bits)) (config-stays c time earlier)
+one-more c time earlier (set-call seconds) = ap (λ (k : Config). stateAfter k (reached c time earlier .state) (set-call seconds)) (config-stays c time earlier)
+one-more c time earlier (reading meter v status seq) = ap (λ (k : Config). stateAfter k (reached c time earlier .state) (reading meter v status seq)) (config-stays c time earlier)
+one-more c time earlier reset = ap (λ (k : Config). stateAfter k (reached c time earlier .state) reset) (config-stays c time earlier)
+
+-- induction over the calls: a fresh start, and one call more
+pub by-calls : (c : Config) (time : ℕ) (P : State → Account → Type 0) → P (freshState time) (accountOf c time [])
+    → ((earlier : List Call) (call : Call) → P (reached c time earlier .state) (accountOf c time earlier)
+    → P (stateAfter c (reached c time earlier .state) call) (withCall c (accountOf c time earlier) call))
+    → (calls : List Call) → P (reached c time calls .state) (accountOf c time calls)
 unfolding afterAll accountOf
-agrees c time [] = fresh-agrees c time
-agrees c time (sample bits ∷ earlier) =
-    let r = reached c time earlier in
-    let a = accountOf c time earlier in
-    subst (λ (k : Config). Agrees c (replyTo (r .state) (sampleOf k (r .state) bits) .state) (withCall c a (sample bits))) (sym (config-stays c time earlier))
-    (sample-agrees c (r .state) a bits (agrees c time earlier))
-agrees c time (set-call seconds ∷ earlier) =
-    let r = reached c time earlier in
-    let a = accountOf c time earlier in
-    subst (λ (k : Config). Agrees c (replyTo (r .state) (setOf k (r .state) seconds) .state) (withCall c a (set-call seconds))) (sym (config-stays c time earlier))
-    (set-agrees c (r .state) a seconds (agrees c time earlier))
-agrees c time (reading meter v status seq ∷ earlier) =
-    let r = reached c time earlier in
-    let a = accountOf c time earlier in
-    subst (λ (k : Config). Agrees c (replyTo (r .state) (readingOf k (r .state) meter v status seq) .state) (withCall c a (reading meter v status seq))) (sym (config-stays c time earlier))
-    (reading-agrees c (r .state) a meter v status seq (agrees c time earlier))
-agrees c time (reset ∷ earlier) =
-    let r = reached c time earlier in
-    let a = accountOf c time earlier in
-    subst (λ (k : Config). Agrees c (resetOf k (r .state)) (withCall c a reset)) (sym (config-stays c time earlier))
-    (reset-agrees c (r .state) a (agrees c time earlier))
+by-calls c time P start step [] = start
+by-calls c time P start step (call ∷ earlier) =
+    subst (λ (s : State). P s (withCall c (accountOf c time earlier) call)) (sym (one-more c time earlier call)) (step earlier call (by-calls c time P start step earlier))
+
+call-agrees : (c : Config) (s : State) (a : Account) (call : Call) → Agrees c s a → Agrees c (stateAfter c s call) (withCall c a call)
+call-agrees c s a (sample bits) = sample-agrees c s a bits
+call-agrees c s a (set-call seconds) = set-agrees c s a seconds
+call-agrees c s a (reading meter v status seq) = reading-agrees c s a meter v status seq
+call-agrees c s a reset = reset-agrees c s a
+
+pub agrees : (c : Config) (time : ℕ) (calls : List Call) → Agrees c (reached c time calls .state) (accountOf c time calls)
+agrees c time = by-calls c time (Agrees c) (fresh-agrees c time) (λ earlier call. call-agrees c (reached c time earlier .state) (accountOf c time earlier) call)
 
 pub answers-of-history : AnswersOfHistory
 answers-of-history c time calls (sample bits) =

@@ -61,11 +61,12 @@ one-counting =
       advance-exit = counting.advance-exit;
       kind-mask = counting.kind-mask;
       running-lines = counting.running-lines;
-      settle = counting.settle;
-      some-units = counting.some-units;
+      settle-line = counting.settle-line;
+      settle-units = counting.settle-units;
       sums-units = counting.sums-units;
       fed-registers = counting.fed-registers;
-      book-amounts = counting.book-amounts;
+      register-units = counting.register-units;
+      some-full = counting.some-full;
       amounts-of = counting.amounts-of;
       put-amounts = counting.put-amounts;
       level9 = counting.level9;
@@ -75,8 +76,11 @@ pub one-sampling : OneSampling
 one-sampling =
     record {
       take = sampling.take-once;
+      run = sampling.run-once;
+      one = sampling.one-once;
       cleared = sampling.cleared;
       close-period = sampling.close-period;
+      close = sampling.close;
     }
 
 pub one-recorder : OneRecorder
@@ -143,17 +147,21 @@ no-precondition =
       counting-advance = λ κs args. tt;
       counting-kind-mask = λ κs args. tt;
       counting-running-lines = λ κs args. tt;
-      counting-settle = λ κs args. tt;
-      counting-some-units = λ κs args. tt;
+      counting-settle-line = λ κs args. tt;
+      counting-settle-units = λ κs args. tt;
       counting-sums-units = λ κs args. tt;
       counting-fed-registers = λ κs args. tt;
-      counting-book-amounts = λ κs args. tt;
+      counting-register-units = λ κs args. tt;
+      counting-some-full = λ κs args. tt;
       counting-amounts-of = λ κs args. tt;
       counting-put-amounts = λ κs args. tt;
       counting-level9 = λ κs args. tt;
       sampling-take = λ κs args. tt;
+      sampling-run = λ κs args. tt;
+      sampling-one = λ κs args. tt;
       sampling-cleared = λ κs args. tt;
       sampling-close-period = λ κs args. tt;
+      sampling-close = λ κs args. tt;
       recorder-start = λ κs args. tt;
       recorder-sample = λ κs args. tt;
       recorder-samples = λ κs args. tt;

@@ -29,17 +29,21 @@ use Rattle.image.proofs.tester_line.Reads as image-tester-line
 use Rattle.counting.proofs.filter.advance.Reads as counting-advance
 use Rattle.counting.proofs.filter.kind_mask.Reads as counting-kind-mask
 use Rattle.counting.proofs.filter.running_lines.Reads as counting-running-lines
-use Rattle.counting.proofs.units.settle.Reads as counting-settle
-use Rattle.counting.proofs.units.some_units.Reads as counting-some-units
+use Rattle.counting.proofs.units.settle_line.Reads as counting-settle-line
+use Rattle.counting.proofs.units.settle_units.Reads as counting-settle-units
 use Rattle.counting.proofs.bills.sums_units.Reads as counting-sums-units
 use Rattle.counting.proofs.bills.fed_registers.Reads as counting-fed-registers
-use Rattle.counting.proofs.bills.book_amounts.Reads as counting-book-amounts
+use Rattle.counting.proofs.bills.register_units.Reads as counting-register-units
+use Rattle.counting.proofs.bills.some_full.Reads as counting-some-full
 use Rattle.counting.proofs.bills.amounts_of.Reads as counting-amounts-of
 use Rattle.counting.proofs.bills.put_amounts.Reads as counting-put-amounts
 use Rattle.counting.proofs.levels.level9.Reads as counting-level9
 use Rattle.sampling.proofs.samples.take.Reads as sampling-take
+use Rattle.sampling.proofs.samples.run.Reads as sampling-run
+use Rattle.sampling.proofs.samples.one.Reads as sampling-one
 use Rattle.sampling.proofs.clock.cleared.Reads as sampling-cleared
 use Rattle.sampling.proofs.clock.close_period.Reads as sampling-close-period
+use Rattle.sampling.proofs.clock.close.Reads as sampling-close
 use Rattle.recorder.proofs.Recorder.start.Reads as recorder-start
 use Rattle.recorder.proofs.Recorder.sample.Reads as recorder-sample
 use Rattle.recorder.proofs.Recorder.samples.Reads as recorder-samples
@@ -100,11 +104,12 @@ pub record OneCounting : Type 1 where
   pub advance-exit : OneExit (λ κs e. now (e .0) ∷ []) counting-advance.Post
   pub kind-mask : OneResult counting-kind-mask.Post
   pub running-lines : OneResult counting-running-lines.Post
-  pub settle : OneResult counting-settle.Post
-  pub some-units : OneResult counting-some-units.Post
+  pub settle-line : OneResult counting-settle-line.Post
+  pub settle-units : OneResult counting-settle-units.Post
   pub sums-units : OneResult counting-sums-units.Post
   pub fed-registers : OneResult counting-fed-registers.Post
-  pub book-amounts : OneResult counting-book-amounts.Post
+  pub register-units : OneResult counting-register-units.Post
+  pub some-full : OneResult counting-some-full.Post
   pub amounts-of : OneResult counting-amounts-of.Post
   pub put-amounts : OneResult counting-put-amounts.Post
   pub level9 : OneResult counting-level9.Post
@@ -112,8 +117,11 @@ pub record OneCounting : Type 1 where
 -- samples and periods: no second result fits, and for a lent buffer no second state of it
 pub record OneSampling : Type 1 where
   pub take : OneResult sampling-take.Post
+  pub run : OneResult sampling-run.Post
+  pub one : OneResult sampling-one.Post
   pub cleared : OneResult sampling-cleared.Post
   pub close-period : OneResult sampling-close-period.Post
+  pub close : OneResult sampling-close.Post
 
 -- the recorder: no second result fits, and for a lent buffer no second state of it
 pub record OneRecorder : Type 1 where
@@ -170,17 +178,21 @@ pub record NoPrecondition : Type 1 where
   pub counting-advance : AsksNothing counting-advance.Asked
   pub counting-kind-mask : AsksNothing counting-kind-mask.Asked
   pub counting-running-lines : AsksNothing counting-running-lines.Asked
-  pub counting-settle : AsksNothing counting-settle.Asked
-  pub counting-some-units : AsksNothing counting-some-units.Asked
+  pub counting-settle-line : AsksNothing counting-settle-line.Asked
+  pub counting-settle-units : AsksNothing counting-settle-units.Asked
   pub counting-sums-units : AsksNothing counting-sums-units.Asked
   pub counting-fed-registers : AsksNothing counting-fed-registers.Asked
-  pub counting-book-amounts : AsksNothing counting-book-amounts.Asked
+  pub counting-register-units : AsksNothing counting-register-units.Asked
+  pub counting-some-full : AsksNothing counting-some-full.Asked
   pub counting-amounts-of : AsksNothing counting-amounts-of.Asked
   pub counting-put-amounts : AsksNothing counting-put-amounts.Asked
   pub counting-level9 : AsksNothing counting-level9.Asked
   pub sampling-take : AsksNothing sampling-take.Asked
+  pub sampling-run : AsksNothing sampling-run.Asked
+  pub sampling-one : AsksNothing sampling-one.Asked
   pub sampling-cleared : AsksNothing sampling-cleared.Asked
   pub sampling-close-period : AsksNothing sampling-close-period.Asked
+  pub sampling-close : AsksNothing sampling-close.Asked
   pub recorder-start : AsksNothing recorder-start.Asked
   pub recorder-sample : AsksNothing recorder-sample.Asked
   pub recorder-samples : AsksNothing recorder-samples.Asked

@@ -1,8 +1,8 @@
 -- The sum over the places of an array or a table, as a loop `t += f(i)` makes it.
 use mathlib.Core.Path.{_≡_, refl}
 use mathlib.Core.Logic.{⊎-elim}
-use Prim.Native.Nat.{ℕ, zero, suc, _+_, _<_, _≤_}
-use native.Mathlib.Nat.{le-of-suc-le-suc, le-refl, le-antisymm, eq-or-lt-of-le}
+use Prim.Native.Nat.{ℕ, zero, suc, _+_, _*_, _<_, _≤_}
+use native.Mathlib.Nat.{not-suc-le-zero, le-of-suc-le-suc, le-refl, le-antisymm, eq-or-lt-of-le}
 use native.Mathlib.Numerals.{add-one}
 use native.Mathlib.Omega.{arith}
 
@@ -54,3 +54,19 @@ pub total-plus : (n : ℕ) (f g : ℕ → ℕ) → total n (λ i. f i + g i) ≡
 unfolding total
 total-plus zero f g = refl
 total-plus (suc n) f g = omega (arith, total-plus n f g)
+
+-- one part that is larger by d
+pub total-one : (n : ℕ) (f g : ℕ → ℕ) (i d : ℕ) → i < n → g i ≡ f i + d → ((j : ℕ) → j < n → (j ≡ i → ⊥) → g j ≡ f j) → total n g ≡ total n f + d
+unfolding total
+total-one zero f g i d l e same = absurd (not-suc-le-zero l)
+total-one (suc n) f g i d l e same =
+    ⊎-elim
+    (λ q. let rest = total-cong n g f (λ j m. same j (omega arith) (λ z. omega arith)) in let last : g n ≡ f n + d = rw (← q) e in omega arith)
+    (λ m. let rest = total-one n f g i d m e (λ j k. same j (omega arith)) in let last = same n (omega arith) (λ z. omega arith) in omega arith)
+    (eq-or-lt-of-le (le-of-suc-le-suc l))
+
+-- parts that are at most m each
+pub total-within : (n m : ℕ) (f : ℕ → ℕ) → ((i : ℕ) → f i ≤ m) → total n f ≤ n * m
+unfolding total
+total-within zero m f h = omega arith
+total-within (suc n) m f h = omega (arith, h n, total-within n m f h)

@@ -8,10 +8,12 @@ use native.Mathlib.Omega.{arith}
 use lib.Dec.{ltb}
 use borrow.Author.Tests.{lt-ltb, ltb-true, ltb-false}
 use Rattle.laws.specs.If.{if_then_else_}
-use Rattle.laws.specs.Tests.{by-test}
-use Rattle.laws.specs.Any.{any, any-cong, any-not}
+use Rattle.laws.proofs.Tests.{by-test}
+use Rattle.laws.specs.Any.{any}
+use Rattle.laws.proofs.Any.{any-cong, any-not}
 use Rattle.laws.specs.Masks.{bitAt}
-use Rattle.laws.specs.Tables.{table, table-cong}
+use Rattle.laws.specs.Tables.{table}
+use Rattle.laws.proofs.Tables.{table-cong}
 use Rattle.settings.specs.declared.Register.{Register}
 use Rattle.counting.specs.Bills.{registerAt, unitAt, registerUnits, fillsUp, fills}
 use Rattle.counting.specs.ByMask.{fedAt, fullAt, someFull, bookedAt, amountsBooked}

@@ -7,11 +7,14 @@ use native.Mathlib.Omega.{arith}
 use lib.Dec.{ltb}
 use lib.ListN.{length}
 use borrow.Author.Tests.{lt-ltb, ltb-false}
-use Rattle.laws.specs.If.{if_then_else_, if-same}
-use Rattle.laws.specs.Tests.{by-test}
-use Rattle.laws.specs.Any.{any-cong, any-not}
-use Rattle.laws.specs.Masks.{bitAt, bit-at, bit-zero}
-use Rattle.laws.specs.Tables.{table, table-at, table-cong, table-self}
+use Rattle.laws.specs.If.{if_then_else_}
+use Rattle.laws.proofs.If.{if-same}
+use Rattle.laws.proofs.Tests.{by-test}
+use Rattle.laws.proofs.Any.{any-cong, any-not}
+use Rattle.laws.specs.Masks.{bitAt}
+use Rattle.laws.proofs.Masks.{bit-at, bit-zero}
+use Rattle.laws.specs.Tables.{table}
+use Rattle.laws.proofs.Tables.{table-at, table-cong, table-self}
 use Rattle.settings.specs.declared.Input.{Input}
 use Rattle.settings.specs.declared.Register.{Register}
 use Rattle.counting.specs.Filter.{inputAt, lineAt, nextRun, ends, fitting, accepted, filtered, filteredAt, acceptedAt, steppedOf}

@@ -13,10 +13,13 @@ use lib.ListN.{getD, set}
 use lib.Pow.{shr-shr}
 use borrow.Author.Tests.{eqb-true, eqb-false, eq-eqb, ne-eqb}
 use Rattle.laws.specs.If.{if_then_else_}
-use Rattle.laws.specs.Any.{any, any-at, any-none}
-use Rattle.laws.specs.Masks.{bitAt, bit-zero}
-use Rattle.laws.specs.Tables.{table, table-at, table-cong}
-use Rattle.laws.specs.Tests.{by-test}
+use Rattle.laws.specs.Any.{any}
+use Rattle.laws.proofs.Any.{any-at, any-none}
+use Rattle.laws.specs.Masks.{bitAt}
+use Rattle.laws.proofs.Masks.{bit-zero}
+use Rattle.laws.specs.Tables.{table}
+use Rattle.laws.proofs.Tables.{table-at, table-cong}
+use Rattle.laws.proofs.Tests.{by-test}
 
 -- bit i + 1 is bit i of the half
 bit-half : (x i : ℕ) → bitAt x (suc i) ≡ bitAt (x / 2) i

@@ -13,11 +13,12 @@ use lib.Seq.{getD-set-same, getD-set-other}
 use mir.Syntax.{w32}
 use mir.Val.{Fits}
 use borrow.Author.Tests.{ltb-true, ltb-false}
-use Rattle.laws.specs.If.{if-same, if-cases}
+use Rattle.laws.proofs.If.{if-same, if-cases}
 use Rattle.laws.specs.Masks.{bitAt}
-use Rattle.laws.specs.Tables.{table, length-table, table-at, table-cong, fillTo}
-use Rattle.laws.specs.Tests.{by-test}
-use Rattle.laws.specs.Total.{total-zero, total-one, total-within}
+use Rattle.laws.specs.Tables.{table}
+use Rattle.laws.proofs.Tables.{length-table, table-at, table-cong, fillTo}
+use Rattle.laws.proofs.Tests.{by-test}
+use Rattle.laws.proofs.Total.{total-zero, total-one, total-within}
 use Rattle.counting.specs.Bills.{unitAt, partOf, namedPart, sumOf, sumAt, sumsOf}
 use Rattle.counting.specs.ByMask.{maskedUnits, addedUnits, Below}
 use Rattle.counting.proofs.Sparse.{Half, doneAt, half-next, half-turn, half-done, lowest-below}

@@ -12,11 +12,13 @@ use lib.ListN.{length, getD, set as setList, length-set, length-replicate, getD-
 use lib.Seq.{getD-set-same, getD-set-other}
 use borrow.Author.Tests.{ltb-true, ltb-false, leb-true, leb-false, eq-eqb, ne-eqb, eqb-true, eqb-false}
 use Rattle.laws.specs.If.{if_then_else_}
-use Rattle.laws.specs.Tests.{by-test}
-use Rattle.laws.specs.Any.{any, any-cong}
-use Rattle.laws.specs.Total.{total-cong}
+use Rattle.laws.proofs.Tests.{by-test}
+use Rattle.laws.specs.Any.{any}
+use Rattle.laws.proofs.Any.{any-cong}
+use Rattle.laws.proofs.Total.{total-cong}
 use Rattle.laws.specs.Masks.{bit, bitAt}
-use Rattle.laws.specs.Tables.{table, table-at}
+use Rattle.laws.specs.Tables.{table}
+use Rattle.laws.proofs.Tables.{table-at}
 use Rattle.calendar.specs.Moments.{momentOf}
 use Rattle.settings.specs.declared.Config.{Config}
 use Rattle.settings.specs.declared.Input.{Input}

@@ -10,8 +10,9 @@ use borrow.Author.Tests.{not-true, not-false, eqb-true, eqb-false, eq-eqb, ltb-t
 use lib.Dec.{eqb, ltb, leb}
 use lib.IntN.{ℤ}
 use lib.ListN.{length, getD, take, drop}
-use Rattle.laws.specs.Tests.{by-test, and-left, and-right, and-both, or-right}
-use Rattle.laws.specs.Any.{any, any-not}
+use Rattle.laws.proofs.Tests.{by-test, and-left, and-right, and-both, or-right}
+use Rattle.laws.specs.Any.{any}
+use Rattle.laws.proofs.Any.{any-not}
 use Rattle.laws.specs.Answers.{Answer, given, refused}
 use Rattle.laws.specs.Broken.{firstBroken}
 use Rattle.laws.specs.Bytes.{le}

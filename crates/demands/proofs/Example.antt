@@ -12,7 +12,8 @@ use Rattle.laws.specs.Total.{total}
 use Rattle.laws.specs.Spans.{span}
 use Rattle.laws.specs.Masks.{maskOf, bitAt}
 use Rattle.laws.specs.SignedTotal.{totalℤ}
-use Rattle.laws.specs.Tables.{table, table-cong}
+use Rattle.laws.specs.Tables.{table}
+use Rattle.laws.proofs.Tables.{table-cong}
 use Rattle.calendar.specs.Dates.{monthLength, yearLength}
 use Rattle.calendar.specs.Moments.{yearDay, momentOf}
 use Rattle.tariff.specs.Daily.{windowActive, dailyActive}

@@ -9,13 +9,16 @@ use lib.Dec.{ltb, eqb}
 use lib.IntN.{pos, negsuc}
 use lib.ListN.{replicate, getD-replicate}
 use borrow.Author.Tests.{lt-ltb, le-ltb, ltb-true, eq-eqb, ne-eqb, eqb-true, eqb-false}
-use Rattle.laws.specs.Tests.{by-test}
+use Rattle.laws.proofs.Tests.{by-test}
 use Rattle.laws.specs.First.{first}
-use Rattle.laws.specs.Any.{any, any-at, any-none}
+use Rattle.laws.specs.Any.{any}
+use Rattle.laws.proofs.Any.{any-at, any-none}
 use Rattle.laws.specs.Total.{total}
 use Rattle.laws.specs.SignedTotal.{totalℤ}
-use Rattle.laws.specs.Masks.{bit, maskOf, bitAt, bit-at, bit-zero}
-use Rattle.laws.specs.Tables.{table, table-cong}
+use Rattle.laws.specs.Masks.{bit, maskOf, bitAt}
+use Rattle.laws.proofs.Masks.{bit-at, bit-zero}
+use Rattle.laws.specs.Tables.{table}
+use Rattle.laws.proofs.Tables.{table-cong}
 use Rattle.settings.specs.Rules.{fittedIn, sumGood}
 use Rattle.settings.specs.Check.{sections, firstBad, checked}
 use Rattle.settings.specs.declared.Config.{Config}

@@ -6,8 +6,8 @@ use Prim.Native.Nat.{ℕ, _<_}
 use native.Mathlib.Omega.{arith}
 use lib.Dec.{ltb, leb, eqb}
 use borrow.Author.Tests.{not-true, not-false, eqb-true, leb-true}
-use Rattle.laws.specs.Tests.{by-test, and-left, and-right, or-right}
-use Rattle.laws.specs.Any.{any-not}
+use Rattle.laws.proofs.Tests.{by-test, and-left, and-right, or-right}
+use Rattle.laws.proofs.Any.{any-not}
 use Rattle.laws.specs.Masks.{bitAt}
 use Rattle.settings.specs.Rules.{inputGood, runsGood, ratioGood, sixZeros, fittedIn, sumGood}
 use Rattle.settings.specs.declared.Input.{Input}

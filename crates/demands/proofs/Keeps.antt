@@ -5,11 +5,13 @@ use mathlib.Core.List.{List}
 use Prim.Native.Nat.{ℕ, _+_, _<_}
 use lib.ListN.{getD}
 use borrow.Author.Tests.{lt-ltb, ltb-true}
-use Rattle.laws.specs.If.{if_then_else_, if-same}
-use Rattle.laws.specs.Any.{any-not}
-use Rattle.laws.specs.Total.{total-cong}
-use Rattle.laws.specs.Masks.{bitAt, bit-at}
-use Rattle.laws.specs.Tables.{table-at}
+use Rattle.laws.specs.If.{if_then_else_}
+use Rattle.laws.proofs.If.{if-same}
+use Rattle.laws.proofs.Any.{any-not}
+use Rattle.laws.proofs.Total.{total-cong}
+use Rattle.laws.specs.Masks.{bitAt}
+use Rattle.laws.proofs.Masks.{bit-at}
+use Rattle.laws.proofs.Tables.{table-at}
 use Rattle.tariff.specs.Rules.{forceMapAt}
 use Rattle.settings.specs.declared.Config.{Config}
 use Rattle.settings.specs.declared.Input.{Input}

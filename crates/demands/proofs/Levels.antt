@@ -10,8 +10,9 @@ use lib.Dec.{eqb, ltb, leb}
 use lib.IntN.{ℤ}
 use lib.ListN.{length, getD, getD-replicate}
 use Rattle.laws.specs.If.{if_then_else_}
-use Rattle.laws.specs.Tests.{by-test, and-left}
-use Rattle.laws.specs.Tables.{table, table-cong, table-self}
+use Rattle.laws.proofs.Tests.{by-test, and-left}
+use Rattle.laws.specs.Tables.{table}
+use Rattle.laws.proofs.Tables.{table-cong, table-self}
 use Rattle.settings.specs.Rules.{inputGood, fittedIn, slotGood, noSlot}
 use Rattle.settings.specs.Check.{sections}
 use Rattle.settings.specs.declared.Config.{Config}

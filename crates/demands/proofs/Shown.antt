@@ -10,13 +10,13 @@ use lib.Dec.{ltb, leb, eqb}
 use lib.IntN.{ℤ, pos}
 use lib.ListN.{getD, drop}
 use Rattle.laws.specs.If.{if_then_else_}
-use Rattle.laws.specs.Tests.{by-test, and-left, and-right}
+use Rattle.laws.proofs.Tests.{by-test, and-left, and-right}
 use Rattle.laws.specs.Answers.{Answer, given, refused}
 use Rattle.laws.specs.Counts.{countOf}
 use Rattle.laws.specs.Masks.{bit}
 use Rattle.laws.specs.SignedTotal.{totalℤ}
-use Rattle.laws.specs.Tables.{table-at}
-use Rattle.laws.specs.Total.{total-cong}
+use Rattle.laws.proofs.Tables.{table-at}
+use Rattle.laws.proofs.Total.{total-cong}
 use Rattle.settings.specs.declared.Config.{Config}
 use Rattle.recorder.specs.Meters.{classOf}
 use Rattle.sampling.specs.declared.Meter.{Meter}

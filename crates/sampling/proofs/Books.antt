@@ -10,13 +10,16 @@ use lib.Dec.{ltb, eqb}
 use lib.ListN.{length, getD, set}
 use lib.Seq.{getD-set-same, getD-set-other}
 use borrow.Author.Tests.{ltb-true, lt-ltb, eqb-true, eqb-false}
-use Rattle.laws.specs.If.{if_then_else_, if-same}
-use Rattle.laws.specs.Tests.{by-test}
-use Rattle.laws.specs.Any.{any-none}
-use Rattle.laws.specs.Total.{total-zero}
-use Rattle.laws.specs.Masks.{bitAt, bit-at, bit-zero, mask-below}
-use Rattle.laws.specs.BitTests.{either, bit-and, bit-xor}
-use Rattle.laws.specs.Tables.{table, table-at, table-cong, table-self, length-table}
+use Rattle.laws.specs.If.{if_then_else_}
+use Rattle.laws.proofs.If.{if-same}
+use Rattle.laws.proofs.Tests.{by-test}
+use Rattle.laws.proofs.Any.{any-none}
+use Rattle.laws.proofs.Total.{total-zero}
+use Rattle.laws.specs.Masks.{bitAt}
+use Rattle.laws.proofs.Masks.{bit-at, bit-zero, mask-below}
+use Rattle.laws.proofs.BitTests.{either, bit-and, bit-xor}
+use Rattle.laws.specs.Tables.{table}
+use Rattle.laws.proofs.Tables.{table-at, table-cong, table-self, length-table}
 use Rattle.tariff.specs.Rules.{forceMapAt}
 use Rattle.settings.specs.declared.Config.{Config}
 use Rattle.settings.specs.declared.Input.{Input}

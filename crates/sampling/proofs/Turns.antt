@@ -11,11 +11,13 @@ use lib.Bits.{bitAnd, bitOr, bitXor, and-le-r, or-lt}
 use lib.ListN.{length, getD, drop}
 use lib.Seq.{drop-cons, drop-length}
 use borrow.Author.Tests.{lt-ltb, ltb-true, ltb-false, lt-leb, le-leb, eqb-true, eqb-false, ne-eqb}
-use Rattle.laws.specs.Tests.{by-test, and-left, and-right}
+use Rattle.laws.proofs.Tests.{by-test, and-left, and-right}
 use Rattle.laws.specs.Answers.{given, refused}
-use Rattle.laws.specs.Masks.{maskOf, bitAt, bit-at, bit-zero, mask-below, mask-cong, mask-ext, mask-zero}
-use Rattle.laws.specs.BitTests.{either, bit-and, bit-or, bit-xor}
-use Rattle.laws.specs.Tables.{table, table-at, table-cong, table-self, length-table}
+use Rattle.laws.specs.Masks.{maskOf, bitAt}
+use Rattle.laws.proofs.Masks.{bit-at, bit-zero, mask-below, mask-cong, mask-ext, mask-zero}
+use Rattle.laws.proofs.BitTests.{either, bit-and, bit-or, bit-xor}
+use Rattle.laws.specs.Tables.{table}
+use Rattle.laws.proofs.Tables.{table-at, table-cong, table-self, length-table}
 use Rattle.settings.specs.declared.Config.{Config}
 use Rattle.settings.specs.declared.Input.{Input}
 use Rattle.counting.specs.Filter.{inputAt, lineAt, active, nextRun, ends, fitting, oneMore, accepted, filtered, filteredAt, acceptedAt, steppedOf}

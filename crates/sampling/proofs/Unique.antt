@@ -3,7 +3,8 @@ use mathlib.Core.Path.{_≡_, refl, sym, ap, _∙_}
 use Prim.Native.Nat.{ℕ}
 use lib.Dec.{eqb}
 use Rattle.laws.specs.If.{if_then_else_}
-use Rattle.laws.specs.Unique.{OneResult, told-apart}
+use Rattle.laws.specs.Unique.{OneResult}
+use Rattle.laws.proofs.Unique.{told-apart}
 use Rattle.sampling.specs.Samples.{numberOf, Run, said}
 use Rattle.sampling.specs.Stretches.{Stretched}
 use Rattle.sampling.specs.declared.samples.Taking.{Taking}

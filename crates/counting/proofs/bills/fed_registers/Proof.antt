@@ -5,7 +5,8 @@ use Prim.Native.Nat.{ℕ, _-_, _≤_}
 use native.Mathlib.Omega.{arith}
 use lib.Dec.{ltb, eqb}
 use borrow.Author.Needs.{needs}
-use Rattle.laws.specs.Masks.{maskOf, mask-none, mask-turn, mask-below, mask-done}
+use Rattle.laws.specs.Masks.{maskOf}
+use Rattle.laws.proofs.Masks.{mask-none, mask-turn, mask-below, mask-done}
 use Rattle.counting.specs.Bills.{registerAt}
 use Rattle.counting.specs.ByMask.{fedBy, fedRegisters}
 use Rattle.counting.proofs.bills.fed_registers.Statement.{statement}

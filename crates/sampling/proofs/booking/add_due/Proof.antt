@@ -6,7 +6,7 @@ use borrow.Author.Needs.{needs}
 use denote.Ref.{now}
 use lib.Count.{trailingZeros, trailing-le}
 use lib.ListN.{getD}
-use Rattle.laws.specs.Tables.{table-self}
+use Rattle.laws.proofs.Tables.{table-self}
 use Rattle.counting.specs.Bills.{registerAt, unitAt, registerUnits}
 use Rattle.counting.proofs.Sparse.{Half, half-start, half-next, half-turn, half-done, lowest-below, lowest-on, drop-less}
 use Rattle.counting.proofs.Full.{not-filled, booked-by-mask}

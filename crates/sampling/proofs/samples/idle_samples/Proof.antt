@@ -9,7 +9,7 @@ use lib.Dec.{ltb}
 use lib.ListN.{length, getD}
 use borrow.Author.Needs.{needs}
 use borrow.Author.Tests.{ltb-true, ltb-false}
-use Rattle.laws.specs.Tests.{by-test}
+use Rattle.laws.proofs.Tests.{by-test}
 use Rattle.sampling.specs.Kept.{Idle}
 use Rattle.sampling.proofs.samples.idle_samples.Statement.{statement}
 use Rattle.sampling.proofs.samples.idle_samples.Tie as tie

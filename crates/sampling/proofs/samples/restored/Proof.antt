@@ -4,7 +4,7 @@ use Prim.Native.Nat.{_<_, _≤_, _^_}
 use native.Mathlib.Omega.{arith}
 use borrow.Author.Needs.{needs}
 use lib.Count.{trailingZeros, trailing-le}
-use Rattle.laws.specs.Tables.{table-self}
+use Rattle.laws.proofs.Tables.{table-self}
 use Rattle.counting.specs.Filter.{lineAt}
 use Rattle.counting.proofs.Sparse.{Half, half-start, half-turn, half-done, lowest-below, drop-less}
 use Rattle.sampling.specs.Kept.{restoredAt, restoredLines}

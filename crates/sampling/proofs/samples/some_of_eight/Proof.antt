@@ -5,8 +5,8 @@ use native.Mathlib.Omega.{arith}
 use lib.Dec.{ltb}
 use borrow.Author.Needs.{needs}
 use borrow.Author.Tests.{ltb-true, ltb-false}
-use Rattle.laws.specs.Tests.{by-test}
-use Rattle.laws.specs.BitTests.{or-none}
+use Rattle.laws.proofs.Tests.{by-test}
+use Rattle.laws.proofs.BitTests.{or-none}
 use Rattle.sampling.specs.Kept.{Idle}
 use Rattle.sampling.proofs.samples.some_of_eight.Statement.{statement}
 use Rattle.sampling.proofs.samples.some_of_eight.Tie as tie

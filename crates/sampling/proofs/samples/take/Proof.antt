@@ -10,10 +10,11 @@ use lib.Bits.{bitAnd, bitOr, bitXor}
 use lib.Count.{trailingZeros, trailing-le}
 use lib.ListN.{length, getD, drop}
 use borrow.Author.Needs.{needs}
-use Rattle.laws.specs.Arrays.{length-mapped}
-use Rattle.laws.specs.BitTests.{or-none}
-use Rattle.laws.specs.Masks.{mask-below}
-use Rattle.laws.specs.Tables.{table, table-at, length-table, table-self}
+use Rattle.laws.proofs.Arrays.{length-mapped}
+use Rattle.laws.proofs.BitTests.{or-none}
+use Rattle.laws.proofs.Masks.{mask-below}
+use Rattle.laws.specs.Tables.{table}
+use Rattle.laws.proofs.Tables.{table-at, length-table, table-self}
 use Rattle.counting.specs.Filter.{inputAt, lineAt, nextRun}
 use Rattle.counting.specs.Bills.{unitAt}
 use Rattle.counting.specs.ByMask.{runningLines, withRun, advancedAt, advancedLines, settled, settledUnits, settledAt, settledUnitsAt, settledOf, withAmounts}

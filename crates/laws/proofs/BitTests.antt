@@ -1,13 +1,13 @@
 -- A bit of `a & b`, `a | b` and `a ^ b`, as a test.
-use mathlib.Core.Path.{_≡_, refl, _∙_}
+use mathlib.Core.Path.{_≡_}
 use mathlib.Core.Bool.{Bool, true, false, not, _&&_, _||_}
 use mathlib.Core.Logic.{_⊎_, inl, inr, ⊎-elim}
-use Prim.Native.Nat.{ℕ, _+_, _*_, _/_, _%_, _^_, _<_, min, max}
+use Prim.Native.Nat.{ℕ, _+_, _*_, _/_, _%_, _^_, _<_}
 use native.Mathlib.Omega.{arith}
 use lib.Dec.{eqb}
-use lib.Bits.{bitAnd, bitOr, bitXor, differ, and-shr, or-shr, xor-shr, and-step, or-step, xor-step, and-le-l, and-le-r, or-add-and}
+use lib.Bits.{bitAnd, bitOr, bitXor, and-shr, or-shr, xor-shr, and-step, or-step, xor-step, and-le-l, and-le-r, or-add-and}
 use borrow.Author.Tests.{eqb-true, eqb-false}
-use Rattle.laws.specs.Tests.{by-test}
+use Rattle.laws.proofs.Tests.{by-test}
 use Rattle.laws.specs.Masks.{bitAt}
 
 -- a last digit is 0 or 1

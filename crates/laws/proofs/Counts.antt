@@ -1,4 +1,4 @@
--- Laws of specs/Counts.antt.
+-- The ones of a mask are as many as the places at which its test holds.
 use mathlib.Core.Path.{_≡_, refl}
 use mathlib.Core.Bool.{Bool, true, false, _||_}
 use Prim.Native.Nat.{ℕ, zero, suc, _≤_}

@@ -1,4 +1,4 @@
--- Laws of specs/SignedTotal.antt.
+-- Sums of signed numbers, and how far they are from 0.
 use mathlib.Core.Path.{_≡_, refl}
 use mathlib.Core.Bool.{Bool, true, false, cond}
 use Prim.Native.Nat.{ℕ, zero, suc, _+_, _-_, _*_, _^_, _<_, _≤_}

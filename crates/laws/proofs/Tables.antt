@@ -1,4 +1,4 @@
--- Laws of specs/Tables.antt.
+-- Laws of tables. A loop `xs[i] = f(i)` has the invariant `xs ≡ fillTo f i xs₀`: by `fill-none` before the first turn, `fill-more` at a turn's end and `fill-done` after the last.
 use mathlib.Core.Path.{_≡_, refl, ap}
 use mathlib.Core.List.{List, [], _∷_}
 use Prim.Native.Nat.{ℕ, zero, suc, _+_, _<_, _≤_}

@@ -1,4 +1,4 @@
--- How many places a test holds at, and the ones of the mask that says at which.
+-- How many places a test holds at.
 use mathlib.Core.Bool.{Bool}
 use Prim.Native.Nat.{ℕ}
 use Rattle.laws.specs.Masks.{bit}

@@ -1,4 +1,4 @@
--- The first place at which a test holds, and its laws. Any search from the front is stated by it.
+-- The first place at which a test holds. Any search from the front is stated by it.
 use mathlib.Core.Bool.{Bool}
 use Prim.Native.Nat.{ℕ, zero, suc}
 use Rattle.laws.specs.If.{if_then_else_}

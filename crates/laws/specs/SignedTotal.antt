@@ -1,4 +1,4 @@
--- Sums of signed numbers over the places of a table, and how far they are from 0.
+-- Sums of signed numbers over the places of a table.
 use Prim.Native.Nat.{ℕ, zero, suc}
 use lib.IntN.{ℤ, pos, _+ℤ_}
 

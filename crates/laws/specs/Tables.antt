@@ -1,5 +1,4 @@
--- Lists by place: the list of a function's values, as a loop `xs[i] = f(i)` makes it. The loop's invariant is `xs ≡ fillTo f i xs₀`: by `fill-none` before the
--- first turn, `fill-more` at a turn's end and `fill-done` after the last.
+-- Lists by place: the list of a function's values.
 use mathlib.Core.List.{List, [], _∷_}
 use Prim.Native.Nat.{ℕ, zero, suc}
 

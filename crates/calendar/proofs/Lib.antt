@@ -3,3 +3,4 @@ pub mod Months
 pub mod Moments
 pub mod Years
 pub mod Unique
+pub mod Cases

@@ -7,10 +7,12 @@ use native.Mathlib.Nat.{le-refl}
 use native.Mathlib.Omega.{arith}
 use lib.Dec.{ltb, leb, eqb}
 use borrow.Author.Tests.{ltb-true, ltb-false, lt-ltb, leb-true, le-leb, eqb-true}
-use Rattle.laws.specs.If.{if-cases}
-use Rattle.laws.specs.Tests.{by-test, and-left, and-right, and-both}
-use Rattle.laws.specs.Total.{total, total-more, total-grows}
-use Rattle.laws.specs.Spans.{span, span-low, span-high, span-below}
+use Rattle.laws.proofs.If.{if-cases}
+use Rattle.laws.proofs.Tests.{by-test, and-left, and-right, and-both}
+use Rattle.laws.specs.Total.{total}
+use Rattle.laws.proofs.Total.{total-more, total-grows}
+use Rattle.laws.specs.Spans.{span}
+use Rattle.laws.proofs.Spans.{span-low, span-high, span-below}
 use Rattle.laws.specs.Answers.{Answer, given, refused}
 use Rattle.calendar.specs.Dates.{leapYear, dayExists, monthLength, yearLength, dayNumber, weekdayOf}
 use Rattle.calendar.specs.Moments.{DateExists, dayOf, IsMoment, yearDay, momentAt, momentOf, atSecond, onDate, dayAfter}

@@ -7,10 +7,13 @@ use native.Mathlib.Omega.{arith}
 use borrow.Author.Tests.{ne-eqb, lt-ltb, ltb-true, ltb-false, leb-true, lt-leb}
 use lib.Dec.{eqb, ltb, leb}
 use lib.ListN.{getD, List·getD-eq-default}
-use Rattle.laws.specs.Tests.{by-test, or-right}
-use Rattle.laws.specs.First.{first, computed}
-use Rattle.laws.specs.Total.{total, total-grows}
-use Rattle.laws.specs.Spans.{span, span-is, span-none, span-low, span-high, span-below}
+use Rattle.laws.proofs.Tests.{by-test, or-right}
+use Rattle.laws.specs.First.{first}
+use Rattle.laws.proofs.First.{computed}
+use Rattle.laws.specs.Total.{total}
+use Rattle.laws.proofs.Total.{total-grows}
+use Rattle.laws.specs.Spans.{span}
+use Rattle.laws.proofs.Spans.{span-is, span-none, span-low, span-high, span-below}
 use Rattle.laws.specs.Answers.{given, refused}
 use Rattle.calendar.specs.Dates.{leapYear, commonLengths, monthLength, yearLength, dayNumber}
 use Rattle.calendar.specs.Moments.{yearDay, momentAt, momentOf}

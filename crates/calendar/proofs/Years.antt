@@ -5,8 +5,9 @@ use native.Mathlib.Nat.{lt-trans}
 use native.Mathlib.Omega.{arith}
 use lib.Dec.{eqb, ltb, lit<}
 use borrow.Author.Tests.{eqb-true, ltb-true, ltb-false}
-use Rattle.laws.specs.First.{first, computed}
-use Rattle.laws.specs.Tests.{by-test}
+use Rattle.laws.specs.First.{first}
+use Rattle.laws.proofs.First.{computed}
+use Rattle.laws.proofs.Tests.{by-test}
 use Rattle.laws.specs.Total.{total}
 use Rattle.calendar.specs.Dates.{yearLength}
 use Rattle.calendar.specs.Moments.{yearDay}

@@ -1,4 +1,4 @@
--- What is proved of dates and moments (proofs/Moments.antt). The layers above build on these laws and not on how a moment is found.
+-- What is proved of dates and moments (proofs/Moments.antt). The layers above build on these laws and not on how a moment is found; only worked examples compute it.
 use mathlib.Core.Path.{_≡_}
 use mathlib.Core.Bool.{true}
 use mathlib.Core.Logic.{_⊎_, _↔_}

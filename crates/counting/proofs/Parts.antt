@@ -2,21 +2,25 @@
 use mathlib.Core.Path.{_≡_, refl, sym, _∙_}
 use mathlib.Core.Bool.{Bool, true, false}
 use mathlib.Core.List.{List}
-use Prim.Native.Nat.{ℕ, _<_}
+use Prim.Native.Nat.{ℕ, _+_, _<_}
 use native.Mathlib.Omega.{arith}
 use lib.Dec.{ltb}
 use lib.ListN.{length}
 use borrow.Author.Tests.{lt-ltb, ltb-false}
 use Rattle.laws.specs.If.{if_then_else_}
-use Rattle.laws.specs.Tests.{by-test}
-use Rattle.laws.specs.Any.{any-cong}
-use Rattle.laws.specs.Masks.{bitAt, bit-at, bit-zero}
-use Rattle.laws.specs.Tables.{table, table-at, table-cong, table-self}
+use Rattle.laws.proofs.If.{if-same}
+use Rattle.laws.proofs.Tests.{by-test}
+use Rattle.laws.proofs.Any.{any-cong, any-not}
+use Rattle.laws.specs.Masks.{bitAt}
+use Rattle.laws.proofs.Masks.{bit-at, bit-zero}
+use Rattle.laws.specs.Tables.{table}
+use Rattle.laws.proofs.Tables.{table-at, table-cong, table-self}
 use Rattle.settings.specs.declared.Input.{Input}
 use Rattle.settings.specs.declared.Register.{Register}
-use Rattle.counting.specs.Filter.{inputAt, lineAt, nextRun, ends, fitting, accepted, filtered, filteredAt, acceptedAt, steppedOf, withRun, advancedAt, advancedLines}
-use Rattle.counting.specs.Units.{creditIf, credited, unitsIf, creditedAt, unitsAt, creditsOf, settled, settledUnits, settledAt, settledUnitsAt, settledOf}
-use Rattle.counting.specs.Bills.{billAt, unitAt, fillsUp, fills, billed, dueOf, dueAt, fillsAt, billedAt, bookedOf, bookedAmount, fedBy, fedRegisters, fedAt, fullAt, bookedAmountAt, amountsBooked, amountsOf, withAmount, withAmountAt, withAmounts}
+use Rattle.counting.specs.Filter.{inputAt, lineAt, nextRun, ends, fitting, accepted, filtered, filteredAt, acceptedAt, steppedOf}
+use Rattle.counting.specs.ByMask.{withRun, advancedAt, advancedLines, settled, settledUnits, settledAt, settledUnitsAt, settledOf, maskedUnits, fedBy, fedRegisters, fedAt, fullAt, someFull, bookedAt, amountsBooked, amountsOf, withAmount, withAmountAt, withAmounts}
+use Rattle.counting.specs.Units.{creditIf, credited, unitsIf, creditedAt, unitsAt, creditsOf}
+use Rattle.counting.specs.Bills.{registerAt, registerUnits, feeds, billAt, unitAt, fillsUp, fills, billed, dueOf, dueAt, fillsAt, billedAt, bookedOf}
 use Rattle.counting.specs.declared.Line.{Line}
 use Rattle.counting.specs.declared.Bill.{Bill}
 
@@ -87,10 +91,10 @@ unfolding withAmounts withAmountAt amountsOf
 own-amounts bills size =
     table-cong 16 (withAmountAt bills (amountsOf bills)) (billAt bills) (λ j l. rw (table-at 16 (λ i. billAt bills i .amount) j 0 l)) ∙ table-self 16 bills _ size
 
--- a bill with its units booked, by its amount
-booked-bill : (bill : Bill) (amount due : ℕ) → billed (withAmount bill amount) due ≡ withAmount bill (bookedAmount amount due)
-unfolding billed fills bookedAmount
-booked-bill bill amount due = by-test (fillsUp amount due) (λ e. rw e) (λ e. rw e)
+-- a bill that is not full, with its units booked, by its amount
+booked-bill : (bill : Bill) (amount due : ℕ) → fillsUp amount due ≡ false → billed (withAmount bill amount) due ≡ withAmount bill (amount + due)
+unfolding billed fills
+booked-bill bill amount due e = rw e
 
 module _ (registers : List Register) (bills : List Bill) (amounts : List ℕ) (map : ℕ) (sums : List ℕ) where
   -- bill j of the whole
@@ -100,15 +104,31 @@ module _ (registers : List Register) (bills : List Bill) (amounts : List ℕ) (m
 
   -- what is due to register j, by the mask of the registers that are fed
   due-at : (j : ℕ) → j < 16 → fedAt registers (fedRegisters registers map) sums j ≡ dueAt registers map sums j
-  unfolding fedAt fedRegisters dueAt dueOf
-  due-at j l = rw (bit-at 16 (fedBy registers map) j, lt-ltb j 16 l)
+  unfolding fedAt fedRegisters dueAt dueOf registerUnits
+  due-at j l =
+      let r = registerAt registers j in
+      rw (bit-at 16 (fedBy registers map) j, lt-ltb j 16 l)
+      (by-test (ltb (r .sum) 8) (λ t. rw t) (λ f. rw f (sym (if-same (feeds r map) 0))))
 
   -- whether a register would be full
-  pub full-parts : bookedOf registers (withAmounts bills amounts) map sums .full ≡ amountsBooked registers amounts (fedRegisters registers map) sums .full
-  unfolding bookedOf amountsBooked fillsAt fullAt fills withAmountAt
+  pub full-parts : bookedOf registers (withAmounts bills amounts) map sums .full ≡ someFull registers amounts (fedRegisters registers map) sums
+  unfolding bookedOf someFull fillsAt fullAt fills withAmountAt
   full-parts = any-cong 16 _ _ (λ j l. rw (bill-at j l, due-at j l))
 
-  -- the bills with their units booked
-  pub bills-parts : bookedOf registers (withAmounts bills amounts) map sums .bills ≡ withAmounts bills (amountsBooked registers amounts (fedRegisters registers map) sums .amounts)
-  unfolding bookedOf amountsBooked billedAt withAmounts withAmountAt bookedAmountAt
-  bills-parts = table-cong 16 _ _ (λ j l. rw (bill-at j l, table-at 16 (bookedAmountAt registers amounts (fedRegisters registers map) sums) j 0 l, due-at j l) (booked-bill (billAt bills j) (unitAt amounts j) (dueAt registers map sums j)))
+  -- the bills with their units booked, where none would be
+  pub bills-parts : someFull registers amounts (fedRegisters registers map) sums ≡ false
+      → bookedOf registers (withAmounts bills amounts) map sums .bills ≡ withAmounts bills (amountsBooked registers amounts (fedRegisters registers map) sums)
+  unfolding bookedOf amountsBooked someFull fullAt billedAt withAmounts withAmountAt bookedAt
+  bills-parts none =
+      rw none
+      (table-cong 16 _ _
+      (λ j l.
+      let n = any-not 16 (fullAt registers amounts (fedRegisters registers map) sums) none j l in
+      let f : fillsUp (unitAt amounts j) (dueAt registers map sums j) ≡ false = rw (due-at j l) at n in
+      rw (bill-at j l, table-at 16 (bookedAt registers amounts (fedRegisters registers map) sums) j 0 l, due-at j l) (booked-bill (billAt bills j) (unitAt amounts j) (dueAt registers map sums j) f)))
+
+-- units that only the inputs of a mask bring
+pub own-units : (units : List ℕ) (mask : ℕ) → length units ≡ 16 → ((i : ℕ) → i < 16 → bitAt mask i ≡ false → unitAt units i ≡ 0) → maskedUnits units mask ≡ units
+unfolding maskedUnits
+own-units units mask size none =
+    table-cong 16 _ (unitAt units) (λ i l. by-test (bitAt mask i) (λ t. rw t) (λ f. rw (f, none i l f))) ∙ table-self 16 units 0 size

@@ -8,7 +8,7 @@ use lib.Signed.{natAbs-le}
 use mir.Syntax.{w8, w64}
 use mir.Val.{SFits, toZ, ofZ}
 use mir.Facts.{toZ-ofZ, toZ-pos, sfits-widen}
-use Rattle.laws.specs.SignedTotal.{abs-add, abs-fits, abs-times}
+use Rattle.laws.proofs.SignedTotal.{abs-add, abs-fits, abs-times}
 
 module _ (value k : ℤ) (units : ℕ) (v : SFits w64 value) (f : SFits w8 k) (near : natAbs value ≤ 2 ^ 60) (few : units ≤ 68_719_476_720) where
   -- the product is at most 2 ^ 44 from 0

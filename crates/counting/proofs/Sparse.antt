@@ -1,6 +1,6 @@
 -- A loop over the bits of a mask, the lowest first: `let i = trailing_zeros(left)`, element i becomes f i, `left = left & (left - 1)`.
-use mathlib.Core.Path.{_≡_, refl, ap, _∙_}
-use mathlib.Core.Bool.{true, not, _&&_, and-true, and-false}
+use mathlib.Core.Path.{_≡_, refl, sym, ap, _∙_}
+use mathlib.Core.Bool.{Bool, true, false, not, _&&_, and-true, and-false}
 use mathlib.Core.List.{List}
 use Prim.Native.Nat.{ℕ, zero, suc, _-_, _*_, _/_, _%_, _^_, _<_}
 use native.Mathlib.Nat.{zero-min, min-zero, div-one, pow-suc, not-suc-le-zero, le-of-suc-le-suc}
@@ -13,9 +13,13 @@ use lib.ListN.{getD, set}
 use lib.Pow.{shr-shr}
 use borrow.Author.Tests.{eqb-true, eqb-false, eq-eqb, ne-eqb}
 use Rattle.laws.specs.If.{if_then_else_}
-use Rattle.laws.specs.Masks.{bitAt, bit-zero}
-use Rattle.laws.specs.Tables.{table, table-at, table-cong}
-use Rattle.laws.specs.Tests.{by-test}
+use Rattle.laws.specs.Any.{any}
+use Rattle.laws.proofs.Any.{any-at, any-none}
+use Rattle.laws.specs.Masks.{bitAt}
+use Rattle.laws.proofs.Masks.{bit-zero}
+use Rattle.laws.specs.Tables.{table}
+use Rattle.laws.proofs.Tables.{table-at, table-cong}
+use Rattle.laws.proofs.Tests.{by-test}
 
 -- bit i + 1 is bit i of the half
 bit-half : (x i : ℕ) → bitAt x (suc i) ≡ bitAt (x / 2) i
@@ -152,3 +156,35 @@ module _ {A : Type 0} (mask : ℕ) (f old : ℕ → A) where
   unfolding doneAt
   half-done {left} z h =
       h .list ∙ table-cong 16 (doneAt mask left f old) (λ i. if bitAt mask i then f i else old i) (λ i l. rw (z, bit-zero i))
+
+-- a look half way: `left` is a part of the mask, and at the other places of the mask the test does not hold
+pub record Looked (mask left : ℕ) (p : ℕ → Bool) : Type 0 where
+  pub within : (i : ℕ) → bitAt left i ≡ true → bitAt mask i ≡ true
+  pub none : (i : ℕ) → bitAt mask i ≡ true → bitAt left i ≡ false → p i ≡ false
+
+module _ (mask : ℕ) (p : ℕ → Bool) where
+  -- before the first turn
+  pub look-start : Looked mask mask p
+  look-start = record { within = λ i h. h; none = λ i t f. let z : true ≡ false = sym t ∙ f in cc }
+
+  -- a turn
+  pub look-turn : {left : ℕ} → 0 < left → left < 2 ^ 16 → Looked mask left p → p (trailingZeros 16 left) ≡ false → Looked mask (bitAnd left (left - 1)) p
+  look-turn {left} q l h e =
+      let i = trailingZeros 16 left in
+      record {
+        within = λ j t. h .within j (by-test (bitAt left j) (λ b. b) (λ b. let f = rw (drop-bit 16 left q l j, b) at t in cc));
+        none =
+            λ j t f.
+            by-test (eqb j i) (λ s. rw (eqb-true j i s) e)
+            (λ d. h .none j t (let g = rw (drop-bit 16 left q l j, d, and-true) at f in g));
+      }
+
+  -- the test holds at the next place
+  pub look-found : {left : ℕ} → 0 < left → left < 2 ^ 16 → Looked mask left p → p (trailingZeros 16 left) ≡ true → any 16 (λ i. bitAt mask i && p i) ≡ true
+  look-found {left} q l h e =
+      let i = trailingZeros 16 left in
+      any-at 16 _ i (lowest-below 16 left q l) (rw (h .within i (lowest-on 16 left q l)) e)
+
+  -- after the last turn it holds nowhere
+  pub look-done : {left : ℕ} → left ≡ 0 → Looked mask left p → any 16 (λ i. bitAt mask i && p i) ≡ false
+  look-done z h = any-none 16 _ (λ i l. by-test (bitAt mask i) (λ t. rw t (h .none i t (rw z (bit-zero i)))) (λ f. rw f))

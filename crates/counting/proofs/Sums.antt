@@ -1,20 +1,27 @@
+-- The sums of the inputs' units, made in place from the inputs of a mask.
 -- The sums of the inputs' units, made input by input in place.
-use mathlib.Core.Path.{_≡_, refl}
+use mathlib.Core.Path.{_≡_, refl, sym, ap, _∙_}
 use mathlib.Core.List.{List, [], _∷_}
-use Prim.Native.Nat.{ℕ, zero, suc, _+_, _*_, _<_, _≤_}
-use native.Mathlib.Nat.{not-suc-le-zero, le-of-suc-le-suc, le-antisymm, add-zero}
+use Prim.Native.Nat.{ℕ, zero, suc, _+_, _-_, _^_, _<_, _≤_}
+use native.Mathlib.Nat.{not-suc-le-zero, le-of-suc-le-suc, zero-add}
 use native.Mathlib.Omega.{arith}
+use lib.Bits.{bitAnd}
+use lib.Count.{trailingZeros}
 use lib.Dec.{ltb}
-use lib.ListN.{length, getD}
+use lib.ListN.{length, getD, set}
+use lib.Seq.{getD-set-same, getD-set-other}
 use mir.Syntax.{w32}
 use mir.Val.{Fits}
 use borrow.Author.Tests.{ltb-true, ltb-false}
-use Rattle.laws.specs.If.{if-same, if-cases}
+use Rattle.laws.proofs.If.{if-same, if-cases}
 use Rattle.laws.specs.Masks.{bitAt}
-use Rattle.laws.specs.Tables.{table, length-table, table-at, table-cong, fillTo}
-use Rattle.laws.specs.Tests.{by-test}
-use Rattle.laws.specs.Total.{total, total-more}
-use Rattle.counting.specs.Bills.{unitAt, namedPart, sumOf, sumAt, sumsOf, addedUnits, Below}
+use Rattle.laws.specs.Tables.{table}
+use Rattle.laws.proofs.Tables.{length-table, table-at, table-cong, fillTo}
+use Rattle.laws.proofs.Tests.{by-test}
+use Rattle.laws.proofs.Total.{total-zero, total-one, total-within}
+use Rattle.counting.specs.Bills.{unitAt, partOf, namedPart, sumOf, sumAt, sumsOf}
+use Rattle.counting.specs.ByMask.{maskedUnits, addedUnits, Below}
+use Rattle.counting.proofs.Sparse.{Half, doneAt, half-next, half-turn, half-done, lowest-below}
 
 -- half way through a loop an element that has not been reached is as it was
 pub fill-rest : {A : Type 0} (f : ℕ → A) (n i : ℕ) (xs : List A) (d : A) → n ≤ i → getD (fillTo f n xs) i d ≡ getD xs i d
@@ -31,55 +38,93 @@ table-past zero f i d h = refl
 table-past (suc n) f zero d h = absurd (not-suc-le-zero h)
 table-past (suc n) f (suc i) d h = table-past n (λ j. f (suc j)) i d (le-of-suc-le-suc h)
 
--- a total whose parts are at most m each
-total-within : (n m : ℕ) (f : ℕ → ℕ) → ((i : ℕ) → f i ≤ m) → total n f ≤ n * m
-unfolding total
-total-within zero m f h = omega arith
-total-within (suc n) m f h = omega (arith, h n, total-within n m f h)
+-- the units of the inputs that have been gone through, none of the others
+abbrev pub unitsPast : List ℕ → ℕ → ℕ → List ℕ
+unitsPast units mask left = table 16 (doneAt mask left (unitAt units) (λ i. 0))
 
--- the units that the inputs before i bring to sum k
-sumTo : List ℕ → List ℕ → ℕ → ℕ → ℕ
-sumTo sums units i k = total i (namedPart (getD sums k 0) (unitAt units))
+-- eight totals of nothing
+no-totals : _≡_ {A = List ℕ} (0 ∷ 0 ∷ 0 ∷ 0 ∷ 0 ∷ 0 ∷ 0 ∷ 0 ∷ []) (table 8 (λ (k : ℕ). 0))
+unfolding table
+no-totals = refl
 
--- the same for all 8 sums
-pub sumsTo : List ℕ → List ℕ → ℕ → List ℕ
-sumsTo sums units i = table 8 (sumTo sums units i)
+-- the sums of no units
+no-sums : (sums : List ℕ) (f : ℕ → ℕ) → ((i : ℕ) → i < 16 → f i ≡ 0) → (0 ∷ 0 ∷ 0 ∷ 0 ∷ 0 ∷ 0 ∷ 0 ∷ 0 ∷ []) ≡ sumsOf sums (table 16 f)
+unfolding sumsOf sumAt sumOf namedPart
+no-sums sums f none =
+    no-totals
+    ∙ table-cong 8 (λ k. 0) _
+    (λ k l. sym (total-zero 16 _ (λ i m. rw (table-at 16 f i 0 m, none i m) (if-same {A = ℕ} (bitAt (getD sums k 0) i) 0))))
 
-module _ (sums units : List ℕ) where
+-- the sums with the units of one input that had none
+sums-set : (sums xs : List ℕ) (i v : ℕ) → i < 16 → length xs ≡ 16 → unitAt xs i ≡ 0 → addedUnits (sumsOf sums xs) sums i v ≡ sumsOf sums (set xs i v)
+unfolding addedUnits sumsOf sumAt sumOf namedPart
+sums-set sums xs i v l size none =
+    table-cong 8 _ _
+    (λ k m.
+    let s = getD sums k 0 in
+    let here : i < length xs = omega arith in
+    rw (table-at 8 (sumAt sums xs) k 0 m)
+    (sym (total-one 16 (namedPart s (unitAt xs)) (namedPart s (unitAt (set xs i v))) i (partOf (bitAt s i) v) l
+    (rw (getD-set-same xs i v 0 here, none, if-same {A = ℕ} (bitAt s i) 0) (sym (zero-add _)))
+    (λ j n d. rw (getD-set-other xs i j v 0 d)))))
+
+module _ (sums units : List ℕ) (mask : ℕ) where
   -- before the first input
-  pub sums-none : (0 ∷ 0 ∷ 0 ∷ 0 ∷ 0 ∷ 0 ∷ 0 ∷ 0 ∷ []) ≡ sumsTo sums units 0
-  unfolding sumsTo sumTo table total
-  sums-none = refl
+  pub sums-start : (0 ∷ 0 ∷ 0 ∷ 0 ∷ 0 ∷ 0 ∷ 0 ∷ 0 ∷ []) ≡ sumsOf sums (unitsPast units mask mask)
+  unfolding doneAt
+  sums-start = no-sums sums (doneAt mask mask (unitAt units) (λ i. 0)) (λ i l. by-test (bitAt mask i) (λ t. rw t) (λ f. rw f))
 
-  -- an input whose units are added
-  pub sums-more : (i : ℕ) (totals : List ℕ) → totals ≡ sumsTo sums units i → addedUnits totals sums i (unitAt units i) ≡ sumsTo sums units (i + 1)
-  unfolding sumsTo sumTo addedUnits namedPart
-  sums-more i totals e =
-      rw e (table-cong 8 _ _ (λ k l. rw (table-at 8 (sumTo sums units i) k 0 l, total-more)))
+  -- the inputs that have been gone through, half way
+  pub past-start : Half mask mask (unitAt units) (λ i. 0) (unitsPast units mask mask)
+  unfolding doneAt
+  past-start = record { within = λ i h. h; list = refl }
 
-  -- an input with no units
-  pub sums-skip : (i : ℕ) (totals : List ℕ) → totals ≡ sumsTo sums units i → unitAt units i ≡ 0 → totals ≡ sumsTo sums units (i + 1)
-  unfolding sumsTo sumTo namedPart
-  sums-skip i totals e z =
-      rw e (table-cong 8 _ _ (λ k l. rw (total-more, z, if-same {A = ℕ} (bitAt (getD sums k 0) i) 0, add-zero)))
+  module _ (left : ℕ) (some : 0 < left) (few : left < 2 ^ 16) (half : Half mask left (unitAt units) (λ i. 0) (unitsPast units mask left)) where
+    -- the list of the next turn
+    past-list : set (unitsPast units mask left) (trailingZeros 16 left) (unitAt units (trailingZeros 16 left)) ≡ unitsPast units mask (bitAnd left (left - 1))
+    past-list = half-turn mask (unitAt units) (λ i. 0) some few half refl .list
+
+    -- one more input has been gone through
+    pub past-turn : Half mask (bitAnd left (left - 1)) (unitAt units) (λ i. 0) (unitsPast units mask (bitAnd left (left - 1)))
+    past-turn = rw past-list at (half-turn mask (unitAt units) (λ i. 0) some few half refl)
+
+    -- and its units are added
+    pub sums-turn : (totals : List ℕ) → totals ≡ sumsOf sums (unitsPast units mask left)
+        → addedUnits totals sums (trailingZeros 16 left) (unitAt units (trailingZeros 16 left)) ≡ sumsOf sums (unitsPast units mask (bitAnd left (left - 1)))
+    sums-turn totals e =
+        let i = trailingZeros 16 left in
+        rw e (sums-set sums (unitsPast units mask left) i (unitAt units i) (lowest-below 16 left some few) (length-table 16 _) (half-next mask (unitAt units) (λ i. 0) some few half 0))
+        ∙ ap (sumsOf sums) past-list
 
   -- after the last input
-  pub sums-done : (i : ℕ) (totals : List ℕ) → totals ≡ sumsTo sums units i → i ≤ 16 → 16 ≤ i → totals ≡ sumsOf sums units
-  unfolding sumsTo sumTo sumsOf sumAt sumOf
-  sums-done i totals e l g = rw (e, le-antisymm l g)
+  pub sums-done : (left : ℕ) (totals : List ℕ) → left ≡ 0 → Half mask left (unitAt units) (λ i. 0) (unitsPast units mask left) → totals ≡ sumsOf sums (unitsPast units mask left)
+      → totals ≡ sumsOf sums (maskedUnits units mask)
+  unfolding maskedUnits
+  sums-done left totals z half e = e ∙ ap (sumsOf sums) (half-done mask (unitAt units) (λ i. 0) z half)
 
   -- there are 8 totals
-  pub sums-long : (i : ℕ) (totals : List ℕ) → totals ≡ sumsTo sums units i → length totals ≡ 8
-  unfolding sumsTo
-  sums-long i totals e = rw e (length-table 8 (sumTo sums units i))
+  pub sums-long : (left : ℕ) (totals : List ℕ) → totals ≡ sumsOf sums (unitsPast units mask left) → length totals ≡ 8
+  unfolding sumsOf
+  sums-long left totals e = rw e (length-table 8 _)
 
-  -- before the last input there is room for the units of one more
-  pub sums-below : (i : ℕ) (totals : List ℕ) → totals ≡ sumsTo sums units i → i < 16 → ((j : ℕ) → Fits w32 (unitAt units j)) → Below totals
-  unfolding sumsTo sumTo namedPart
-  sums-below i totals e l h k =
-      let part : (j : ℕ) → namedPart (getD sums k 0) (unitAt units) j ≤ 4_294_967_295 =
-      λ j. if-cases (λ u. u ≤ 4_294_967_295) (bitAt (getD sums k 0) j) (λ b. omega (arith, h j .fits)) (λ b. omega arith) in
+  -- the units of an input that has been gone through fit 32 bits
+  past-fits : (left j : ℕ) → ((i : ℕ) → Fits w32 (unitAt units i)) → unitAt (unitsPast units mask left) j ≤ 4_294_967_295
+  unfolding doneAt
+  past-fits left j h =
+      by-test (ltb j 16)
+      (λ t.
+      rw (table-at 16 (doneAt mask left (unitAt units) (λ i. 0)) j 0 (ltb-true j 16 t))
+      (if-cases (λ u. u ≤ 4_294_967_295) (bitAt left j) (λ b. omega arith) (λ b. if-cases (λ u. u ≤ 4_294_967_295) (bitAt mask j) (λ d. omega (arith, h j .fits)) (λ d. omega arith))))
+      (λ f. rw (table-past 16 (doneAt mask left (unitAt units) (λ i. 0)) j 0 (ltb-false j 16 f)) (omega arith))
+
+  -- so there is room for the units of one more
+  pub sums-below : (left : ℕ) (totals : List ℕ) → totals ≡ sumsOf sums (unitsPast units mask left) → ((j : ℕ) → Fits w32 (unitAt units j)) → Below totals
+  unfolding sumsOf sumAt sumOf namedPart
+  sums-below left totals e h k =
+      let xs = unitsPast units mask left in
+      let part : (j : ℕ) → namedPart (getD sums k 0) (unitAt xs) j ≤ 4_294_967_295 =
+      λ j. if-cases (λ u. u ≤ 4_294_967_295) (bitAt (getD sums k 0) j) (λ b. past-fits left j h) (λ b. omega arith) in
       rw e
       (by-test (ltb k 8)
-      (λ t. rw (table-at 8 (sumTo sums units i) k 0 (ltb-true k 8 t)) (omega (arith, total-within i 4_294_967_295 _ part)))
-      (λ f. rw (table-past 8 (sumTo sums units i) k 0 (ltb-false k 8 f)) (omega arith)))
+      (λ t. rw (table-at 8 (sumAt sums xs) k 0 (ltb-true k 8 t)) (omega (arith, total-within 16 4_294_967_295 _ part)))
+      (λ f. rw (table-past 8 (sumAt sums xs) k 0 (ltb-false k 8 f)) (omega arith)))

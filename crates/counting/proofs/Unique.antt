@@ -6,11 +6,12 @@ use Rattle.laws.specs.Unique.{OneResult, OneExit}
 use Rattle.counting.proofs.filter.advance.Reads as advance-reads
 use Rattle.counting.proofs.filter.kind_mask.Reads as kind-mask-reads
 use Rattle.counting.proofs.filter.running_lines.Reads as running-lines-reads
-use Rattle.counting.proofs.units.settle.Reads as settle-reads
-use Rattle.counting.proofs.units.some_units.Reads as some-units-reads
+use Rattle.counting.proofs.units.settle_line.Reads as settle-line-reads
+use Rattle.counting.proofs.units.settle_units.Reads as settle-units-reads
 use Rattle.counting.proofs.bills.sums_units.Reads as sums-units-reads
 use Rattle.counting.proofs.bills.fed_registers.Reads as fed-registers-reads
-use Rattle.counting.proofs.bills.book_amounts.Reads as book-amounts-reads
+use Rattle.counting.proofs.bills.register_units.Reads as register-units-reads
+use Rattle.counting.proofs.bills.some_full.Reads as some-full-reads
 use Rattle.counting.proofs.bills.amounts_of.Reads as amounts-of-reads
 use Rattle.counting.proofs.bills.put_amounts.Reads as put-amounts-reads
 use Rattle.counting.proofs.levels.level9.Reads as level9-reads
@@ -25,11 +26,11 @@ kind-mask κs a x y e f p q = p ∙ sym q
 pub running-lines : OneResult running-lines-reads.Post
 running-lines κs a x y e f p q = p ∙ sym q
 
-pub settle : OneResult settle-reads.Post
-settle κs a x y e f p q = p ∙ sym q
+pub settle-line : OneResult settle-line-reads.Post
+settle-line κs a x y e f p q = p ∙ sym q
 
-pub some-units : OneResult some-units-reads.Post
-some-units κs a x y e f p q = p ∙ sym q
+pub settle-units : OneResult settle-units-reads.Post
+settle-units κs a x y e f p q = p ∙ sym q
 
 pub sums-units : OneResult sums-units-reads.Post
 sums-units κs a x y e f p q = p ∙ sym q
@@ -37,8 +38,11 @@ sums-units κs a x y e f p q = p ∙ sym q
 pub fed-registers : OneResult fed-registers-reads.Post
 fed-registers κs a x y e f p q = p ∙ sym q
 
-pub book-amounts : OneResult book-amounts-reads.Post
-book-amounts κs a x y e f p q = p ∙ sym q
+pub register-units : OneResult register-units-reads.Post
+register-units κs a x y e f p q = p ∙ sym q
+
+pub some-full : OneResult some-full-reads.Post
+some-full κs a x y e f p q = p ∙ sym q
 
 pub amounts-of : OneResult amounts-of-reads.Post
 amounts-of κs a x y e f p q = p ∙ sym q

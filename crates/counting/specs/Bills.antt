@@ -2,17 +2,16 @@
 -- second." And: "6 FULL: the sample would take a bill register past 999,999,999."
 use mathlib.Core.Bool.{Bool, false, _&&_, _||_}
 use mathlib.Core.List.{List}
-use Prim.Native.Nat.{ℕ, _+_, _≤_}
+use Prim.Native.Nat.{ℕ, _+_}
 use lib.Dec.{ltb, eqb}
 use lib.ListN.{getD}
 use Rattle.laws.specs.If.{if_then_else_}
 use Rattle.laws.specs.Any.{any}
 use Rattle.laws.specs.Total.{total}
-use Rattle.laws.specs.Masks.{maskOf, bitAt}
+use Rattle.laws.specs.Masks.{bitAt}
 use Rattle.laws.specs.Tables.{table}
 use Rattle.settings.specs.declared.Register.{Register}
 use Rattle.counting.specs.declared.Bill.{Bill}
-use Rattle.counting.specs.declared.bills.Amounts.{Amounts}
 
 -- bill register j of a configuration
 abbrev pub registerAt : List Register → ℕ → Register
@@ -93,56 +92,3 @@ pub record Booked : Type 0 where
 unfoldable pub bookedOf : List Register → List Bill → ℕ → List ℕ → Booked
 bookedOf registers bills map sums =
     record { full = any 16 (fillsAt registers bills map sums); bills = table 16 (billedAt registers bills map sums) }
-
--- an amount with its units booked; a full one is left as it is
-unfoldable pub bookedAmount : ℕ → ℕ → ℕ
-bookedAmount amount due = if fillsUp amount due then amount else amount + due
-
--- register j has no rule, or its rule is in force
-abbrev pub fedBy : List Register → ℕ → ℕ → Bool
-fedBy registers map j = feeds (registerAt registers j) map
-
--- the mask of the registers that have no rule, or whose rule is in force
-unfoldable pub fedRegisters : List Register → ℕ → ℕ
-fedRegisters registers map = maskOf 16 (fedBy registers map)
-
--- what a sample books to register j, given the mask of the registers that it feeds
-unfoldable pub fedAt : List Register → ℕ → List ℕ → ℕ → ℕ
-fedAt registers fed sums j = partOf (bitAt fed j) (registerUnits (registerAt registers j) sums)
-
--- amount j would be too large
-unfoldable pub fullAt : List Register → List ℕ → ℕ → List ℕ → ℕ → Bool
-fullAt registers amounts fed sums j = fillsUp (unitAt amounts j) (fedAt registers fed sums j)
-
--- amount j with its units booked
-unfoldable pub bookedAmountAt : List Register → List ℕ → ℕ → List ℕ → ℕ → ℕ
-bookedAmountAt registers amounts fed sums j = bookedAmount (unitAt amounts j) (fedAt registers fed sums j)
-
--- whether one amount would be too large, and all with their units booked
-unfoldable pub amountsBooked : List Register → List ℕ → ℕ → List ℕ → Amounts
-amountsBooked registers amounts fed sums =
-    record { full = any 16 (fullAt registers amounts fed sums); amounts = table 16 (bookedAmountAt registers amounts fed sums) }
-
--- the open amounts of the bills, as numbers
-unfoldable pub amountsOf : List Bill → List ℕ
-amountsOf bills = table 16 (λ j. billAt bills j .amount)
-
--- a bill with another open amount
-abbrev pub withAmount : Bill → ℕ → Bill
-withAmount bill amount = record { amount = amount; closed = bill .closed; stamp = bill .stamp; reset = bill .reset }
-
--- bill j with its open amount out of a list of numbers
-unfoldable pub withAmountAt : List Bill → List ℕ → ℕ → Bill
-withAmountAt bills amounts j = withAmount (billAt bills j) (unitAt amounts j)
-
--- the bills with their open amounts out of a list of numbers
-unfoldable pub withAmounts : List Bill → List ℕ → List Bill
-withAmounts bills amounts = table 16 (withAmountAt bills amounts)
-
--- the units of input i added to each sum that names it
-unfoldable pub addedUnits : List ℕ → List ℕ → ℕ → ℕ → List ℕ
-addedUnits totals sums i units = table 8 (λ k. unitAt totals k + partOf (bitAt (getD sums k 0) i) units)
-
--- totals to which the units of one more input can be added in 64 bits
-abbrev pub Below : List ℕ → Type 0
-Below totals = (k : ℕ) → unitAt totals k ≤ 64_424_509_425

@@ -1,6 +1,6 @@
 -- "S1a is active closed, S1r active open. Each line keeps its run of active samples from one sample to the next, counted to 256 and held there. The first inactive
 -- sample after a run of at least 1 ends it: shortest to longest inclusive is an accepted impulse, any other run a rejected one (count held at 65,535)."
-use mathlib.Core.Bool.{Bool, true, not, _&&_, _||_}
+use mathlib.Core.Bool.{Bool, not, _&&_, _||_}
 use mathlib.Core.List.{List}
 use Prim.Native.Nat.{ℕ, _+_}
 use lib.Dec.{ltb, leb, eqb}
@@ -74,31 +74,3 @@ pub record Stepped : Type 0 where
 unfoldable pub steppedOf : List Input → List Line → ℕ → Stepped
 steppedOf inputs lines mask =
     record { lines = table 16 (filteredAt inputs lines mask); impulses = maskOf 16 (acceptedAt inputs lines mask) }
-
--- input i has a kind
-abbrev pub kindAt : List Input → ℕ → ℕ → Bool
-kindAt inputs kind i = eqb (inputAt inputs i .kind) kind
-
--- the mask of the inputs of a kind
-unfoldable pub kindMask : List Input → ℕ → ℕ
-kindMask inputs kind = maskOf 16 (kindAt inputs kind)
-
--- line i has a run
-abbrev pub runningAt : List Line → ℕ → Bool
-runningAt lines i = ltb 0 (lineAt lines i .run)
-
--- the mask of the lines with a run
-unfoldable pub runningLines : List Line → ℕ
-runningLines lines = maskOf 16 (runningAt lines)
-
--- a line with another run
-abbrev pub withRun : Line → ℕ → Line
-withRun line run = record { run = run; rejected = line .rejected; remainder = line .remainder; units = line .units }
-
--- line i after a sample in which it is active: its run goes on
-unfoldable pub advancedAt : List Line → ℕ → ℕ → Line
-advancedAt lines mask i = if bitAt mask i then withRun (lineAt lines i) (nextRun (lineAt lines i .run) true) else lineAt lines i
-
--- all lines after a sample, given the mask of active ones
-unfoldable pub advancedLines : List Line → ℕ → List Line
-advancedLines lines mask = table 16 (advancedAt lines mask)

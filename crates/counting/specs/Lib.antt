@@ -3,3 +3,4 @@ pub mod Filter
 pub mod Units
 pub mod Bills
 pub mod Levels
+pub mod ByMask

@@ -1,17 +1,14 @@
 -- "An accepted impulse adds the numerator to the input's remainder; whole denominators leave it as units."
-use mathlib.Core.Bool.{Bool, true}
+use mathlib.Core.Bool.{Bool}
 use mathlib.Core.List.{List}
 use Prim.Native.Nat.{ℕ, _+_, _/_, _%_}
 use lib.Dec.{ltb, eqb}
-use lib.ListN.{getD}
 use Rattle.laws.specs.If.{if_then_else_}
 use Rattle.laws.specs.Masks.{bitAt}
 use Rattle.laws.specs.Tables.{table}
 use Rattle.settings.specs.declared.Input.{Input}
-use Rattle.laws.specs.Any.{any}
-use Rattle.counting.specs.Filter.{inputAt, lineAt, withRun, fitting, oneMore}
+use Rattle.counting.specs.Filter.{inputAt, lineAt}
 use Rattle.counting.specs.declared.Line.{Line}
-use Rattle.counting.specs.declared.units.Credits.{Credits}
 
 -- the whole denominators in remainder and numerator; none without a denominator, which no image has
 unfoldable pub unitsOf : Input → ℕ → ℕ
@@ -51,38 +48,12 @@ creditedAt inputs lines impulses i = creditIf (inputAt inputs i) (lineAt lines i
 unfoldable pub unitsAt : List Input → List Line → ℕ → ℕ → ℕ
 unitsAt inputs lines impulses i = unitsIf (inputAt inputs i) (lineAt lines i) (bitAt impulses i)
 
+-- all lines with their impulses credited, and the units that each brings
+pub record Credits : Type 0 where
+  pub lines : List Line
+  pub units : List ℕ
+
 -- all lines, and the units that each brings
 unfoldable pub creditsOf : List Input → List Line → ℕ → Credits
 creditsOf inputs lines impulses =
     record { lines = table 16 (creditedAt inputs lines impulses); units = table 16 (unitsAt inputs lines impulses) }
-
--- a line on which a run ends: an accepted impulse is credited, any other run is counted as rejected
-unfoldable pub settled : Input → Line → Line
-settled input line =
-    if fitting input line then withRun (credited input line) 0
-    else record { run = 0; rejected = oneMore (line .rejected) true; remainder = line .remainder; units = line .units }
-
--- the units that it brings
-unfoldable pub settledUnits : Input → Line → ℕ
-settledUnits input line = if fitting input line then unitsOf input (line .remainder) else 0
-
--- line i, on which a run ends if the mask says so
-unfoldable pub settledAt : List Input → List Line → ℕ → ℕ → Line
-settledAt inputs lines ending i = if bitAt ending i then settled (inputAt inputs i) (lineAt lines i) else lineAt lines i
-
--- the units that it brings
-unfoldable pub settledUnitsAt : List Input → List Line → ℕ → ℕ → ℕ
-settledUnitsAt inputs lines ending i = if bitAt ending i then settledUnits (inputAt inputs i) (lineAt lines i) else 0
-
--- all lines with the runs of a mask ended, and the units that these bring
-unfoldable pub settledOf : List Input → List Line → ℕ → Credits
-settledOf inputs lines ending =
-    record { lines = table 16 (settledAt inputs lines ending); units = table 16 (settledUnitsAt inputs lines ending) }
-
--- line i brings units
-unfoldable pub someAt : List ℕ → ℕ → Bool
-someAt units i = ltb 0 (getD units i 0)
-
--- some line brings units
-unfoldable pub someUnits : List ℕ → Bool
-someUnits units = any 16 (someAt units)

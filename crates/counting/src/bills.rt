@@ -6,13 +6,8 @@ use settings::Register;
 ghost use mathlib.Core.Path.{_≡_};
 ghost use Prim.Native.Nat.{_≤_};
 ghost use lib.ListN.{length};
-ghost use Rattle.counting.specs.Bills.{partOf, sumOf, unitAt, Below, addedUnits, sumsOf, registerUnits, fedRegisters, fillsUp, bookedAmount, amountsBooked, amountsOf, withAmounts};
-
-// Whether a register would be full, and the open amounts.
-pub struct Amounts {
-    pub full: bool,
-    pub amounts: [u32; 16],
-}
+ghost use Rattle.counting.specs.Bills.{partOf, sumOf, unitAt, sumsOf, registerUnits, fillsUp};
+ghost use Rattle.counting.specs.ByMask.{maskedUnits, Below, addedUnits, fedRegisters, someFull, amountsOf, withAmounts};
 
 fn part(on: bool, units: u32) -> u64
     ensures { λ r. ⌜ (r ≡ partOf on units) × (r ≤ 4294967295) ⌝ }
@@ -44,22 +39,23 @@ fn add_units(totals: &mut [u64; 8], sums: [u16; 8], i: usize, units: u32)
     }
 }
 
-// The units of the sums. Few inputs bring units with a sample, so the inputs are gone through and not the sums.
-pub fn sums_units(sums: [u16; 8], units: [u32; 16]) -> [u64; 8]
-    ensures { λ r. ⌜ r ≡ sumsOf sums units ⌝ }
+// The units that the inputs of a mask bring to the sums. Few inputs bring units with a sample, so these are gone through and not the sums.
+pub fn sums_units(sums: [u16; 8], units: [u32; 16], mask: u16) -> [u64; 8]
+    ensures { λ r. ⌜ r ≡ sumsOf sums (maskedUnits units mask) ⌝ }
 {
     let mut totals = [0u64; 8];
-    for i in 0..16usize {
-        if 0 < units[i] {
-            add_units(&mut totals, sums, i, units[i]);
-        }
+    let mut left = mask;
+    while left > 0 {
+        let i = u16::trailing_zeros(left) as usize;
+        add_units(&mut totals, sums, i, units[i]);
+        left = left & (left - 1);
     }
     totals
 }
 
 // The units of a register's sum; a register that is not in use has none.
-fn register_units(register: Register, sums: [u64; 8]) -> u64
-    ensures { λ r. ⌜ r ≡ registerUnits register sums ⌝ }
+pub fn register_units(register: Register, sums: &[u64; 8]) -> u64
+    ensures { λ r. ⌜ r ≡ registerUnits register (now (sums .entry)) ⌝ }
 {
     let sum = register.sum as usize;
     if sum >= 8 {
@@ -68,17 +64,7 @@ fn register_units(register: Register, sums: [u64; 8]) -> u64
     sums[sum]
 }
 
-// What a sample books to a register that it feeds.
-fn due(register: Register, fed: bool, sums: [u64; 8]) -> u64
-    ensures { λ r. ⌜ r ≡ partOf fed (registerUnits register sums) ⌝ }
-{
-    if fed {
-        return register_units(register, sums);
-    }
-    0
-}
-
-// The registers that units go to: they have no rule, or their rule is in the map.
+// The registers that units go to: they are in use, and have no rule, or their rule is in the map.
 pub fn fed_registers(registers: [Register; 16], map: u16) -> u16
     ensures { λ r. ⌜ r ≡ fedRegisters registers map ⌝ }
 {
@@ -86,7 +72,7 @@ pub fn fed_registers(registers: [Register; 16], map: u16) -> u16
     for j in 0..16usize {
         let register = registers[j];
         let on = (register.rule == 255) | tariff::bit_at(map as u32, register.rule);
-        mask = with_bit(mask, j, on);
+        mask = with_bit(mask, j, (register.sum < 8) & on);
     }
     mask
 }
@@ -101,35 +87,19 @@ fn would_fill(amount: u32, due: u64) -> bool
     (0 < due) & (999999999 < (amount as u64) + due)
 }
 
-fn book_amount(amount: u32, due: u64) -> u32
-    ensures { λ r. ⌜ r ≡ bookedAmount amount due ⌝ }
+// Whether the units would take one of the registers that they go to past 999,999,999.
+pub fn some_full(amounts: &[u32; 16], registers: [Register; 16], fed: u16, sums: &[u64; 8]) -> bool
+    ensures { λ r. ⌜ r ≡ someFull registers (now (amounts .entry)) fed (now (sums .entry)) ⌝ }
 {
-    if would_fill(amount, due) {
-        return amount;
+    let mut left = fed;
+    while left > 0 {
+        let j = u16::trailing_zeros(left) as usize;
+        if would_fill(amounts[j], register_units(registers[j], sums)) {
+            return true;
+        }
+        left = left & (left - 1);
     }
-    ((amount as u64) + due) as u32
-}
-
-// Books the units to the open amounts. Where one register would be full, the amounts do not count: the whole sample is refused.
-pub fn book_amounts(
-    registers: [Register; 16],
-    amounts: [u32; 16],
-    fed: u16,
-    sums: [u64; 8],
-) -> Amounts
-    ensures { λ r. ⌜ r ≡ amountsBooked registers amounts fed sums ⌝ }
-{
-    let mut next = amounts;
-    let mut full = false;
-    for j in 0..16usize {
-        let units = due(registers[j], is_on(fed, j), sums);
-        full = full | would_fill(amounts[j], units);
-        next[j] = book_amount(amounts[j], units);
-    }
-    Amounts {
-        full,
-        amounts: next,
-    }
+    false
 }
 
 // The open amounts of the bills, as numbers.

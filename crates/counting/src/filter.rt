@@ -5,7 +5,8 @@ ghost use mathlib.Core.Path.{_≡_};
 ghost use mathlib.Core.Bool.{true};
 ghost use Prim.Native.Nat.{_<_, _^_};
 ghost use Rattle.laws.specs.Masks.{withBit, bitAt};
-ghost use Rattle.counting.specs.Filter.{nextRun, oneMore, fits, kindMask, runningLines};
+ghost use Rattle.counting.specs.Filter.{nextRun, oneMore, fits};
+ghost use Rattle.counting.specs.ByMask.{kindMask, runningLines};
 
 // Whether a bit of a mask is on.
 pub(crate) fn is_on(mask: u16, place: usize) -> bool

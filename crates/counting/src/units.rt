@@ -4,12 +4,8 @@ use crate::filter::accepts;
 use crate::filter::one_more;
 use settings::Input;
 ghost use mathlib.Core.Path.{_≡_};
-ghost use Rattle.counting.specs.Units.{unitsOf, remainderOf, heldSum, settled, settledUnits, settledOf, someUnits};
-
-pub struct Credits {
-    pub lines: [Line; 16],
-    pub units: [u32; 16],
-}
+ghost use Rattle.counting.specs.Units.{unitsOf, remainderOf, heldSum};
+ghost use Rattle.counting.specs.ByMask.{settled, settledUnits};
 
 // The whole denominators in the remainder and the numerator. No image has a denominator of 0; one that had would bring no units.
 fn units_of(input: Input, remainder: u16) -> u32
@@ -44,7 +40,7 @@ fn held_sum(units: u32, more: u32) -> u32
 }
 
 // A line on which a run ends: an accepted impulse brings units, any other run is counted as rejected.
-fn settle_line(input: Input, line: Line) -> Line
+pub fn settle_line(input: Input, line: Line) -> Line
     ensures { λ r. ⌜ r ≡ settled input line ⌝ }
 {
     if accepts(input, line.run) {
@@ -64,38 +60,11 @@ fn settle_line(input: Input, line: Line) -> Line
 }
 
 // The units that it brings.
-fn settle_units(input: Input, line: Line) -> u32
+pub fn settle_units(input: Input, line: Line) -> u32
     ensures { λ r. ⌜ r ≡ settledUnits input line ⌝ }
 {
     if accepts(input, line.run) {
         return units_of(input, line.remainder);
     }
     0
-}
-
-// The lines with the runs of a mask ended, and the units that these brought. Only the lines of the mask are gone through.
-pub fn settle(inputs: [Input; 16], lines: [Line; 16], ending: u16) -> Credits
-    ensures { λ r. ⌜ r ≡ settledOf inputs lines ending ⌝ }
-{
-    let mut next = lines;
-    let mut units = [0u32; 16];
-    let mut left = ending;
-    while left > 0 {
-        let i = u16::trailing_zeros(left) as usize;
-        units[i] = settle_units(inputs[i], next[i]);
-        next[i] = settle_line(inputs[i], next[i]);
-        left = left & (left - 1);
-    }
-    Credits { lines: next, units }
-}
-
-// Whether a line brought units.
-pub fn some_units(units: [u32; 16]) -> bool
-    ensures { λ r. ⌜ r ≡ someUnits units ⌝ }
-{
-    let mut some = false;
-    for i in 0..16usize {
-        some = some | (0 < units[i]);
-    }
-    some
 }

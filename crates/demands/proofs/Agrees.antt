@@ -10,21 +10,21 @@ use lib.Dec.{ltb, leb, eqb}
 use lib.IntN.{ℤ}
 use lib.ListN.{length, getD, set as setList, length-set, length-replicate, getD-replicate}
 use lib.Seq.{getD-set-same, getD-set-other}
-use borrow.Author.Tests.{lt-ltb, ltb-true, ltb-false, leb-true, leb-false, eq-eqb, ne-eqb, eqb-true, eqb-false}
+use borrow.Author.Tests.{ltb-true, ltb-false, leb-true, leb-false, eq-eqb, ne-eqb, eqb-true, eqb-false}
 use Rattle.laws.specs.If.{if_then_else_}
-use Rattle.laws.specs.Tests.{by-test}
-use Rattle.laws.specs.Any.{any, any-cong}
-use Rattle.laws.specs.Total.{total-cong}
+use Rattle.laws.proofs.Tests.{by-test}
+use Rattle.laws.specs.Any.{any}
+use Rattle.laws.proofs.Any.{any-cong}
+use Rattle.laws.proofs.Total.{total-cong}
 use Rattle.laws.specs.Masks.{bit, bitAt}
-use Rattle.laws.specs.Tables.{table, table-at}
-use Rattle.laws.specs.Answers.{Answer, given, refused}
+use Rattle.laws.specs.Tables.{table}
+use Rattle.laws.proofs.Tables.{table-at}
 use Rattle.calendar.specs.Moments.{momentOf}
-use Rattle.calendar.specs.declared.Moment.{Moment}
 use Rattle.settings.specs.declared.Config.{Config}
 use Rattle.settings.specs.declared.Input.{Input}
-use Rattle.counting.specs.Filter.{inputAt, lineAt, nextRun, accepted, filtered, oneMore, ends, fitting}
+use Rattle.counting.specs.Filter.{inputAt, lineAt, nextRun, accepted, filtered, oneMore}
 use Rattle.counting.specs.Units.{unitsOf, remainderOf, credited, creditIf}
-use Rattle.counting.specs.Bills.{billAt, partOf, namedPart, sumOf, fills, fillsAt, bookedOf, withAmount}
+use Rattle.counting.specs.Bills.{billAt, partOf, namedPart, sumOf, fills, fillsAt, bookedOf}
 use Rattle.sampling.specs.Periods.{multiple, cleared, tickOf}
 use Rattle.sampling.specs.Samples.{activeAt, bookingOf, bookingOn, countedOf, clockEnd, sampleOf}
 use Rattle.recorder.specs.Clock.{setTo, setOf, closedBill, closedBillAt, resetOf}
@@ -34,15 +34,14 @@ use Rattle.recorder.specs.History.{Call, sample, set as set-call, reading, rese
 use Rattle.registers.specs.Fleet.{meterAt}
 use Rattle.counting.specs.declared.Line.{Line}
 use Rattle.counting.specs.declared.Bill.{Bill}
-use Rattle.sampling.specs.declared.Meter.{Meter}
 use Rattle.sampling.specs.declared.State.{State}
 use Rattle.calendar.proofs.Moments.{dated-or-not}
-use Rattle.recorder.proofs.Sound.{config-stays, reached-is-sound}
-use Rattle.demands.specs.Account.{Entry, took, ended, cleared as cleared-entry, heard, Sample, Time, Account, runOf, endsRun, inRange, sampleOn, always, impulsesOf, rejectedIn, whole, inUse, booksAt, feeding, amountOf, lastReset, lastReading, nextSample, dueTo, overfull, sampleNumber, dateNumber, readingNumber, answerOf, stepped, counted, entered, withCall, accountOf}
-use Rattle.demands.specs.State.{billOf, meterOf}
-use Rattle.demands.specs.Demand2.{reached, numberOf, AnswersOfHistory}
+use Rattle.recorder.proofs.Sound.{config-stays}
+use Rattle.demands.specs.Account.{Entry, took, ended, cleared as cleared-entry, heard, Sample, Account, runOf, endsRun, inRange, sampleOn, always, impulsesOf, rejectedIn, whole, inUse, booksAt, feeding, amountOf, lastReading, nextSample, dueTo, overfull, numberOfSample, numberOfDate, numberOfReading, stepped, counted, withCall, accountOf}
+use Rattle.demands.specs.State.{billIn, meterIn}
+use Rattle.demands.specs.Demand2.{reached, AnswersOfHistory}
 use Rattle.demands.proofs.Units.{leftOver, units-step, left-step}
-use Rattle.demands.proofs.Keeps.{bringsAt, broughtAt, getsAt, bookedState, due, due-is, due-none, fillsOn, line-after, bill-after, cleared-line}
+use Rattle.demands.proofs.Keeps.{bookedState, due, due-is, due-none, fillsOn, line-after, bill-after, cleared-line}
 
 -- a line has the run, the rejected impulses and the remainder of its input's journal
 pub record LineAgrees (c : Config) (journal : List Entry) (i : ℕ) (line : Line) : Type 0 where
@@ -57,8 +56,8 @@ pub record Agrees (c : Config) (s : State) (a : Account) : Type 0 where
   pub few : s .samples < 100
   pub first : s .first ≡ a .time .first
   pub lines : (i : ℕ) → i < 16 → LineAgrees c (a .journal) i (lineAt (s .lines) i)
-  pub bills : (j : ℕ) → j < 16 → billAt (s .bills) j ≡ billOf c (a .journal) j
-  pub meters : (i : ℕ) → i < 32 → meterAt (s .meters) i ≡ meterOf (lastReading (a .journal) i)
+  pub bills : (j : ℕ) → j < 16 → billAt (s .bills) j ≡ billIn c (a .journal) j
+  pub meters : (i : ℕ) → i < 32 → meterAt (s .meters) i ≡ meterIn (lastReading (a .journal) i)
   pub all-meters : length (s .meters) ≡ 32
 
 -- Lines
@@ -115,6 +114,13 @@ module _ (c : Config) (journal : List Entry) (bits second i : ℕ) (line : Line)
 
 -- A sample
 
+-- the hundredth sample
+pub hundredth : (c : Config) (s : State) (a : Account) → Agrees c s a → leb 99 (s .samples) ≡ eqb (a .time .samples) 99
+hundredth c s a old =
+    by-test (leb 99 (s .samples))
+    (λ t. t ∙ sym (eq-eqb (a .time .samples) 99 (omega (arith, leb-true 99 (s .samples) t, old .samples, old .few))))
+    (λ f. f ∙ sym (ne-eqb (a .time .samples) 99 (λ e. omega (arith, leb-false 99 (s .samples) f, old .samples))))
+
 -- the journal with a sample
 abbrev pub longer : Account → ℕ → List Entry
 longer a bits = took bits (a .time .second) ∷ a .journal
@@ -134,7 +140,7 @@ module _ (c : Config) (s : State) (a : Account) (bits : ℕ) (old : Agrees c s a
 
   -- its open amount is the account's
   amount-same : (j : ℕ) → j < 16 → inUse c j ≡ true → billAt (s .bills) j .amount ≡ amountOf c j (a .journal)
-  unfolding billOf
+  unfolding billIn
   amount-same j l u = ap (λ (b : Bill). b .amount) (old .bills j l) ∙ rw u
 
   fills-same : (j : ℕ) → j < 16 → fillsOn c s bits j ≡ overfull c (a .journal) now j
@@ -149,15 +155,11 @@ module _ (c : Config) (s : State) (a : Account) (bits : ℕ) (old : Agrees c s a
   full-same = any-cong 16 (fillsOn c s bits) (overfull c (a .journal) now) fills-same
 
   end-same : clockEnd s ≡ (eqb (a .time .second) 4_294_967_295 && eqb (a .time .samples) 99)
-  end-same =
-      ap₂ _&&_ (ap (λ (n : ℕ). eqb n 4_294_967_295) (old .clock))
-      (by-test (leb 99 (s .samples))
-      (λ t. t ∙ sym (eq-eqb (a .time .samples) 99 (omega (arith, leb-true 99 (s .samples) t, old .samples, old .few))))
-      (λ f. f ∙ sym (ne-eqb (a .time .samples) 99 (λ e. omega (arith, leb-false 99 (s .samples) f, old .samples)))))
+  end-same = ap₂ _&&_ (ap (λ (n : ℕ). eqb n 4_294_967_295) (old .clock)) (hundredth c s a old)
 
   -- bill j with its units
-  bill-agrees : (j : ℕ) → j < 16 → bookingOn c s bits .full ≡ false → billAt (bookingOn c s bits .bills) j ≡ billOf c (longer a bits) j
-  unfolding billOf amountOf
+  bill-agrees : (j : ℕ) → j < 16 → bookingOn c s bits .full ≡ false → billAt (bookingOn c s bits .bills) j ≡ billIn c (longer a bits) j
+  unfolding billIn amountOf
   bill-agrees j l e =
       bill-after c s bits j l e
       ∙ by-test (inUse c j)
@@ -187,16 +189,9 @@ unfolding cleared
 cleared-agrees c journal state stamp i line old = record { run = old .run; rejected = old .rejected; remainder = old .remainder }
 
 -- the end of a period moves no bill
-ended-bill : (c : Config) (journal : List Entry) (state stamp j : ℕ) → billOf c (ended state stamp ∷ journal) j ≡ billOf c journal j
-unfolding billOf amountOf
+ended-bill : (c : Config) (journal : List Entry) (state stamp j : ℕ) → billIn c (ended state stamp ∷ journal) j ≡ billIn c journal j
+unfolding billIn amountOf
 ended-bill c journal state stamp j = refl
-
--- the hundredth sample
-pub hundredth : (c : Config) (s : State) (a : Account) → Agrees c s a → leb 99 (s .samples) ≡ eqb (a .time .samples) 99
-hundredth c s a old =
-    by-test (leb 99 (s .samples))
-    (λ t. t ∙ sym (eq-eqb (a .time .samples) 99 (omega (arith, leb-true 99 (s .samples) t, old .samples, old .few))))
-    (λ f. f ∙ sym (ne-eqb (a .time .samples) 99 (λ e. omega (arith, leb-false 99 (s .samples) f, old .samples))))
 
 tick-agrees : (c : Config) (s : State) (a : Account) → Agrees c s a → Agrees c (tickOf c s) (stepped c (a .time) (a .journal))
 unfolding tickOf stepped
@@ -252,8 +247,8 @@ SampleCase c s a bits s′ a′ =
     ⊎ ((bookingOn c s bits .full ≡ false) × (s′ ≡ countedOf c (bookedState c s bits)) × (a′ ≡ counted c (a .time) (longer a bits)))
 
 pub sample-case : (c : Config) (s : State) (a : Account) (bits : ℕ) → Agrees c s a
-    → (replyTo s (sampleOf c s bits) .number ≡ sampleNumber c a bits) × SampleCase c s a bits (replyTo s (sampleOf c s bits) .state) (withCall c a (sample bits))
-unfolding sampleOf sampleNumber withCall
+    → (replyTo s (sampleOf c s bits) .number ≡ numberOfSample c a bits) × SampleCase c s a bits (replyTo s (sampleOf c s bits) .state) (withCall c a (sample bits))
+unfolding sampleOf numberOfSample withCall
 sample-case c s a bits old =
     by-test (clockEnd s)
     (λ t. rw (t, sym (end-same c s a bits old) ∙ t) (refl, inl (refl, refl)))
@@ -264,7 +259,7 @@ sample-case c s a bits old =
     (λ h. rw (f, g, h, sym (full-same c s a bits old) ∙ h) (refl, inr (refl, refl, refl))))
 
 -- so they agree after it
-pub sample-agrees : (c : Config) (s : State) (a : Account) (bits : ℕ) → Agrees c s a → Agrees c (replyTo s (sampleOf c s bits) .state) (withCall c a (sample bits))
+sample-agrees : (c : Config) (s : State) (a : Account) (bits : ℕ) → Agrees c s a → Agrees c (replyTo s (sampleOf c s bits) .state) (withCall c a (sample bits))
 sample-agrees c s a bits old =
     ⊎-elim (λ e. rw (e .0, e .1) old)
     (λ e. rw (e .1, e .2) (counted-agrees c (bookedState c s bits) (record { time = a .time; journal = longer a bits }) (booked-agrees c s a bits old (e .0))))
@@ -272,11 +267,11 @@ sample-agrees c s a bits old =
 
 -- A clock set
 
-pub set-number : (c : Config) (s : State) (seconds : ℕ) → replyTo s (setOf c s seconds) .number ≡ dateNumber (momentOf seconds)
+pub set-number : (c : Config) (s : State) (seconds : ℕ) → replyTo s (setOf c s seconds) .number ≡ numberOfDate (momentOf seconds)
 unfolding setOf
 set-number c s seconds = ⊎-elim (λ d. rw (d .1)) (λ e. rw e) (dated-or-not seconds)
 
-pub set-agrees : (c : Config) (s : State) (a : Account) (seconds : ℕ) → Agrees c s a → Agrees c (replyTo s (setOf c s seconds) .state) (withCall c a (set-call seconds))
+set-agrees : (c : Config) (s : State) (a : Account) (seconds : ℕ) → Agrees c s a → Agrees c (replyTo s (setOf c s seconds) .state) (withCall c a (set-call seconds))
 unfolding setOf setTo withCall
 set-agrees c s a seconds old =
     ⊎-elim
@@ -297,8 +292,8 @@ set-agrees c s a seconds old =
 
 -- A reading
 
-pub reading-number : (c : Config) (s : State) (meter : ℕ) (v : ℤ) (status seq : ℕ) → replyTo s (readingOf c s meter v status seq) .number ≡ readingNumber c meter status seq
-unfolding readingOf readingNumber
+pub reading-number : (c : Config) (s : State) (meter : ℕ) (v : ℤ) (status seq : ℕ) → replyTo s (readingOf c s meter v status seq) .number ≡ numberOfReading c meter status seq
+unfolding readingOf numberOfReading
 reading-number c s meter v status seq =
     by-test (ltb 31 meter) (λ t. rw t)
     (λ f.
@@ -308,7 +303,7 @@ reading-number c s meter v status seq =
 -- the meters with a reading
 heard-meter : (c : Config) (s : State) (a : Account) (meter : ℕ) (v : ℤ) (status seq i : ℕ) → Agrees c s a → meter < 32 → i < 32
     → meterAt (setList (s .meters) meter (record { read = true; stamp = s .clock; value = v; status = status; seq = seq })) i
-    ≡ meterOf (lastReading (heard (a .time .second) meter v status seq ∷ a .journal) i)
+    ≡ meterIn (lastReading (heard (a .time .second) meter v status seq ∷ a .journal) i)
 heard-meter c s a meter v status seq i old m l =
     by-test (eqb meter i)
     (λ t.
@@ -316,13 +311,13 @@ heard-meter c s a meter v status seq i old m l =
     rw (t, ← eqb-true meter i t, ← old .clock) (getD-set-same (s .meters) meter _ _ there))
     (λ f. rw f (getD-set-other (s .meters) meter i _ _ (λ e. eqb-false meter i f (sym e)) ∙ old .meters i l))
 
-heard-bill : (c : Config) (journal : List Entry) (stamp meter : ℕ) (v : ℤ) (status seq j : ℕ) → billOf c (heard stamp meter v status seq ∷ journal) j ≡ billOf c journal j
-unfolding billOf amountOf
+heard-bill : (c : Config) (journal : List Entry) (stamp meter : ℕ) (v : ℤ) (status seq j : ℕ) → billIn c (heard stamp meter v status seq ∷ journal) j ≡ billIn c journal j
+unfolding billIn amountOf
 heard-bill c journal stamp meter v status seq j = refl
 
-pub reading-agrees : (c : Config) (s : State) (a : Account) (meter : ℕ) (v : ℤ) (status seq : ℕ) → Agrees c s a
+reading-agrees : (c : Config) (s : State) (a : Account) (meter : ℕ) (v : ℤ) (status seq : ℕ) → Agrees c s a
     → Agrees c (replyTo s (readingOf c s meter v status seq) .state) (withCall c a (reading meter v status seq))
-unfolding readingOf readingNumber withCall
+unfolding readingOf numberOfReading withCall
 reading-agrees c s a meter v status seq old =
     by-test (ltb 31 meter) (λ t. rw t old)
     (λ f.
@@ -345,13 +340,13 @@ reading-agrees c s a meter v status seq old =
 -- A billing reset
 
 reset-bill : (c : Config) (s : State) (a : Account) (j : ℕ) → Agrees c s a → j < 16
-    → billAt (table 16 (closedBillAt (c .registers) (s .bills) (s .clock))) j ≡ billOf c (cleared-entry (a .time .second) ∷ a .journal) j
-unfolding closedBillAt closedBill billOf amountOf
+    → billAt (table 16 (closedBillAt (c .registers) (s .bills) (s .clock))) j ≡ billIn c (cleared-entry (a .time .second) ∷ a .journal) j
+unfolding closedBillAt closedBill billIn amountOf
 reset-bill c s a j old l =
     table-at 16 (closedBillAt (c .registers) (s .bills) (s .clock)) j _ l
     ∙ by-test (inUse c j) (λ u. rw (u, old .bills j l, u, old .clock)) (λ f. rw (f, old .bills j l, f))
 
-pub reset-agrees : (c : Config) (s : State) (a : Account) → Agrees c s a → Agrees c (resetOf c s) (withCall c a reset)
+reset-agrees : (c : Config) (s : State) (a : Account) → Agrees c s a → Agrees c (resetOf c s) (withCall c a reset)
 unfolding resetOf withCall
 reset-agrees c s a old =
     record {
@@ -370,8 +365,8 @@ reset-agrees c s a old =
 fresh-remainder : (x : Input) → 0 ≡ leftOver x 0
 fresh-remainder x = by-test (eqb (x .denominator) 0) (λ t. rw t) (λ f. rw (f, zero-mul, zero-mod))
 
-fresh-bill : (c : Config) (j : ℕ) → record { amount = 0; closed = 0; stamp = 0; reset = false } ≡ billOf c [] j
-unfolding billOf amountOf
+fresh-bill : (c : Config) (j : ℕ) → record { amount = 0; closed = 0; stamp = 0; reset = false } ≡ billIn c [] j
+unfolding billIn amountOf
 fresh-bill c j = by-test (inUse c j) (λ u. rw u) (λ f. rw f)
 
 fresh-agrees : (c : Config) (time : ℕ) → Agrees c (freshState time) (accountOf c time [])
@@ -390,38 +385,47 @@ fresh-agrees c time =
 
 -- All calls
 
-pub agrees : (c : Config) (time : ℕ) (calls : List Call) → Agrees c (reached c time calls .state) (accountOf c time calls)
+-- a call on a state, under the configuration that the start gave
+abbrev pub stateAfter : Config → State → Call → State
+stateAfter c s (sample bits) = replyTo s (sampleOf c s bits) .state
+stateAfter c s (set-call seconds) = replyTo s (setOf c s seconds) .state
+stateAfter c s (reading meter v status seq) = replyTo s (readingOf c s meter v status seq) .state
+stateAfter c s reset = resetOf c s
+
+one-more : (c : Config) (time : ℕ) (earlier : List Call) (call : Call) → reached c time (call ∷ earlier) .state ≡ stateAfter c (reached c time earlier .state) call
+unfolding afterAll
+one-more c time earlier (sample bits) = ap (λ (k : Config). stateAfter k (reached c time earlier .state) (sample bits)) (config-stays c time earlier)
+one-more c time earlier (set-call seconds) = ap (λ (k : Config). stateAfter k (reached c time earlier .state) (set-call seconds)) (config-stays c time earlier)
+one-more c time earlier (reading meter v status seq) = ap (λ (k : Config). stateAfter k (reached c time earlier .state) (reading meter v status seq)) (config-stays c time earlier)
+one-more c time earlier reset = ap (λ (k : Config). stateAfter k (reached c time earlier .state) reset) (config-stays c time earlier)
+
+-- induction over the calls: a fresh start, and one call more
+pub by-calls : (c : Config) (time : ℕ) (P : State → Account → Type 0) → P (freshState time) (accountOf c time [])
+    → ((earlier : List Call) (call : Call) → P (reached c time earlier .state) (accountOf c time earlier)
+    → P (stateAfter c (reached c time earlier .state) call) (withCall c (accountOf c time earlier) call))
+    → (calls : List Call) → P (reached c time calls .state) (accountOf c time calls)
 unfolding afterAll accountOf
-agrees c time [] = fresh-agrees c time
-agrees c time (sample bits ∷ earlier) =
-    let r = reached c time earlier in
-    let a = accountOf c time earlier in
-    subst (λ (k : Config). Agrees c (replyTo (r .state) (sampleOf k (r .state) bits) .state) (withCall c a (sample bits))) (sym (config-stays c time earlier))
-    (sample-agrees c (r .state) a bits (agrees c time earlier))
-agrees c time (set-call seconds ∷ earlier) =
-    let r = reached c time earlier in
-    let a = accountOf c time earlier in
-    subst (λ (k : Config). Agrees c (replyTo (r .state) (setOf k (r .state) seconds) .state) (withCall c a (set-call seconds))) (sym (config-stays c time earlier))
-    (set-agrees c (r .state) a seconds (agrees c time earlier))
-agrees c time (reading meter v status seq ∷ earlier) =
-    let r = reached c time earlier in
-    let a = accountOf c time earlier in
-    subst (λ (k : Config). Agrees c (replyTo (r .state) (readingOf k (r .state) meter v status seq) .state) (withCall c a (reading meter v status seq))) (sym (config-stays c time earlier))
-    (reading-agrees c (r .state) a meter v status seq (agrees c time earlier))
-agrees c time (reset ∷ earlier) =
-    let r = reached c time earlier in
-    let a = accountOf c time earlier in
-    subst (λ (k : Config). Agrees c (resetOf k (r .state)) (withCall c a reset)) (sym (config-stays c time earlier))
-    (reset-agrees c (r .state) a (agrees c time earlier))
+by-calls c time P start step [] = start
+by-calls c time P start step (call ∷ earlier) =
+    subst (λ (s : State). P s (withCall c (accountOf c time earlier) call)) (sym (one-more c time earlier call)) (step earlier call (by-calls c time P start step earlier))
+
+call-agrees : (c : Config) (s : State) (a : Account) (call : Call) → Agrees c s a → Agrees c (stateAfter c s call) (withCall c a call)
+call-agrees c s a (sample bits) = sample-agrees c s a bits
+call-agrees c s a (set-call seconds) = set-agrees c s a seconds
+call-agrees c s a (reading meter v status seq) = reading-agrees c s a meter v status seq
+call-agrees c s a reset = reset-agrees c s a
+
+pub agrees : (c : Config) (time : ℕ) (calls : List Call) → Agrees c (reached c time calls .state) (accountOf c time calls)
+agrees c time = by-calls c time (Agrees c) (fresh-agrees c time) (λ earlier call. call-agrees c (reached c time earlier .state) (accountOf c time earlier) call)
 
 pub answers-of-history : AnswersOfHistory
 answers-of-history c time calls (sample bits) =
     let s = reached c time calls .state in
-    subst (λ (k : Config). replyTo s (sampleOf k s bits) .number ≡ sampleNumber c (accountOf c time calls) bits) (sym (config-stays c time calls))
+    subst (λ (k : Config). replyTo s (sampleOf k s bits) .number ≡ numberOfSample c (accountOf c time calls) bits) (sym (config-stays c time calls))
     (sample-case c s (accountOf c time calls) bits (agrees c time calls) .0)
 answers-of-history c time calls (set-call seconds) = set-number (reached c time calls .config) (reached c time calls .state) seconds
 answers-of-history c time calls (reading meter v status seq) =
     let s = reached c time calls .state in
-    subst (λ (k : Config). replyTo s (readingOf k s meter v status seq) .number ≡ readingNumber c meter status seq) (sym (config-stays c time calls))
+    subst (λ (k : Config). replyTo s (readingOf k s meter v status seq) .number ≡ numberOfReading c meter status seq) (sym (config-stays c time calls))
     (reading-number c s meter v status seq)
 answers-of-history c time calls reset = refl

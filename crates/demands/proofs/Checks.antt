@@ -9,7 +9,7 @@ use native.Mathlib.Omega.{arith}
 use lib.Dec.{ltb, leb}
 use borrow.Author.Tests.{leb-true, leb-false, lt-leb}
 use Rattle.laws.specs.If.{if_then_else_}
-use Rattle.laws.specs.Tests.{by-test}
+use Rattle.laws.proofs.Tests.{by-test}
 use Rattle.laws.specs.Masks.{bit, bitAt}
 use Rattle.settings.specs.declared.Config.{Config}
 use Rattle.counting.specs.Filter.{inputAt}

@@ -3,15 +3,16 @@ use mathlib.Core.Path.{_≡_, refl, sym, ap, _∙_}
 use mathlib.Core.Bool.{Bool, true, false, true≢false, not, _&&_, _||_}
 use mathlib.Core.List.{List, [], _∷_, _++_}
 use mathlib.Core.Logic.{_⊎_, inl, inr, ⊎-elim}
-use Prim.Native.Nat.{ℕ, zero, suc, _+_, _*_, _/_, _<_, _≤_}
+use Prim.Native.Nat.{ℕ, zero, suc, _+_, _*_, _<_, _≤_}
 use native.Mathlib.Nat.{le-refl}
 use native.Mathlib.Omega.{arith}
 use borrow.Author.Tests.{not-true, not-false, eqb-true, eqb-false, eq-eqb, ltb-true, lt-ltb, leb-true, leb-false, le-leb, lt-leb}
 use lib.Dec.{eqb, ltb, leb}
 use lib.IntN.{ℤ}
 use lib.ListN.{length, getD, take, drop}
-use Rattle.laws.specs.Tests.{by-test, and-left, and-right, and-both, or-right}
-use Rattle.laws.specs.Any.{any, any-not}
+use Rattle.laws.proofs.Tests.{by-test, and-left, and-right, and-both, or-right}
+use Rattle.laws.specs.Any.{any}
+use Rattle.laws.proofs.Any.{any-not}
 use Rattle.laws.specs.Answers.{Answer, given, refused}
 use Rattle.laws.specs.Broken.{firstBroken}
 use Rattle.laws.specs.Bytes.{le}

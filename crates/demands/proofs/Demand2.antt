@@ -16,7 +16,7 @@ use Rattle.recorder.specs.Calls.{replyTo}
 use Rattle.recorder.specs.History.{Call, sample, afterAll}
 use Rattle.recorder.proofs.Sound.{config-stays}
 use Rattle.registers.proofs.Laws.{bytes-as-table, given-first}
-use Rattle.demands.specs.Account.{Account, sampleNumber, withCall, accountOf}
+use Rattle.demands.specs.Account.{Account, numberOfSample, accountOf}
 use Rattle.demands.specs.Demand2.{reached, takenIn, endOf, withSamples, RunsOfHistory, TariffOfMoment, Demand2}
 use Rattle.demands.proofs.Starts.{start-is-fresh}
 use Rattle.demands.proofs.Agrees.{answers-of-history}
@@ -42,8 +42,8 @@ run-says c time calls (bits ∷ more) = go (sampleOf c s bits) refl (run-says c 
     a : Account
     a = accountOf c time calls
 
-    number : replyTo s (sampleOf c s bits) .number ≡ sampleNumber c a bits
-    number = subst (λ (k : Config). replyTo s (sampleOf k s bits) .number ≡ sampleNumber c a bits) (config-stays c time calls) (answers-of-history c time calls (sample bits))
+    number : replyTo s (sampleOf c s bits) .number ≡ numberOfSample c a bits
+    number = subst (λ (k : Config). replyTo s (sampleOf k s bits) .number ≡ numberOfSample c a bits) (config-stays c time calls) (answers-of-history c time calls (sample bits))
 
     moved : replyTo s (sampleOf c s bits) .state ≡ reached c time (sample bits ∷ calls) .state
     moved = subst (λ (k : Config). replyTo s (sampleOf k s bits) .state ≡ reached c time (sample bits ∷ calls) .state) (config-stays c time calls) refl
@@ -51,11 +51,11 @@ run-says c time calls (bits ∷ more) = go (sampleOf c s bits) refl (run-says c 
     go : (x : Answer State) → sampleOf c s bits ≡ x → Says c time (sample bits ∷ calls) more (samplesOf c (reached c time (sample bits ∷ calls) .state) more)
         → Says c time calls (bits ∷ more) (samplesOf c s (bits ∷ more))
     go (given later) e rest =
-        let none : sampleNumber c a bits ≡ 0 = sym number ∙ rw e in
+        let none : numberOfSample c a bits ≡ 0 = sym number ∙ rw e in
         let there : later ≡ reached c time (sample bits ∷ calls) .state = sym (rw e) ∙ moved in
         rw (none, e, there) (ap suc (rest .0), rest .1, rest .2)
     go (refused n o) e rest =
-        let some : sampleNumber c a bits ≡ n = sym number ∙ rw e in
+        let some : numberOfSample c a bits ≡ n = sym number ∙ rw e in
         rw (e, some, ne-eqb n 0 (refused-some c s bits n o e)) (refl, refl, refl)
 
 pub runs-of-history : RunsOfHistory

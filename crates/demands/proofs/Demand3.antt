@@ -1,56 +1,35 @@
 -- The owner's third demand: the recorder's amounts are the account's, and the account's keep the three sentences.
 use mathlib.Core.Path.{_≡_, refl, sym, ap, subst, _∙_}
-use mathlib.Core.Bool.{Bool, true, false, not, _&&_, _||_}
+use mathlib.Core.Bool.{true}
 use mathlib.Core.List.{List, [], _∷_}
 use Prim.Native.Nat.{ℕ, _+_, _*_, _<_}
-use native.Mathlib.Omega.{arith}
-use lib.Dec.{ltb, leb, eqb}
-use lib.IntN.{ℤ}
+use lib.Dec.{eqb}
 use lib.ListN.{getD}
-use borrow.Author.Tests.{lt-ltb, not-true, not-false, leb-true}
-use Rattle.laws.specs.Tests.{by-test, and-left, and-right, or-right}
-use Rattle.laws.specs.Any.{any-not}
+use borrow.Author.Tests.{lt-ltb}
+use Rattle.laws.proofs.Tests.{by-test}
 use Rattle.laws.specs.Masks.{bitAt}
-use Rattle.settings.specs.Rules.{inputGood, runsGood, ratioGood, sixZeros, fittedIn, sumGood}
 use Rattle.settings.specs.Check.{sections}
 use Rattle.settings.specs.declared.Config.{Config}
-use Rattle.settings.specs.declared.Input.{Input}
 use Rattle.sampling.specs.Periods.{multiple}
 use Rattle.counting.specs.Filter.{inputAt}
 use Rattle.counting.specs.Bills.{registerAt, billAt, namedPart, sumOf}
-use Rattle.recorder.specs.History.{Call, sample, set, reading, reset, afterAll}
+use Rattle.recorder.specs.History.{Call, sample, set, reading, reset}
 use Rattle.counting.specs.declared.Bill.{Bill}
 use Rattle.demands.specs.Account.{Entry, took, Time, Account, since, booksAt, feeding, impulsesOf, amountOf, answerOf, stepped, counted, entered, withCall, accountOf, journalOf}
 use Rattle.demands.specs.Energy.{stretchesOf, inputsIn, scaleOf, energyOf}
 use Rattle.demands.specs.Starts.{Accepted}
-use Rattle.demands.specs.State.{billOf}
+use Rattle.demands.specs.State.{billIn}
 use Rattle.demands.specs.Demand2.{reached}
 use Rattle.demands.specs.Demand3.{openOf, closedOf, InUse, WithoutRule, Near, OpenAmount, PlainBills, AmountsAddUp, AmountsAreTheSums}
-use Rattle.demands.proofs.Sums.{added, added-cong}
+use Rattle.demands.proofs.Inputs.{good-denominator, good-names}
+use Rattle.demands.proofs.Sums.{added-cong}
 use Rattle.demands.proofs.Rounding.{near-one, near-all}
 use Rattle.demands.proofs.Agrees.{agrees}
 use Rattle.demands.proofs.Bills.{startOf, start-lt, pays, booked-pays, closedIn, all-booked, shared, booked-always}
 
 -- What the definitions say
 
--- a good input of some kind has a denominator
-good-denominator : (x : Input) → inputGood x ≡ true → eqb (x .kind) 0 ≡ false → 0 < x .denominator
-good-denominator x e kind =
-    let fitted = (eqb (x .kind) 1 || eqb (x .kind) 2) && runsGood x in
-    let top = leb 1 (x .numerator) && leb (x .numerator) 10_000 in
-    let none : (eqb (x .kind) 0 && sixZeros x) ≡ false = rw kind in
-    let ratio = and-right fitted (ratioGood x) (or-right (eqb (x .kind) 0 && sixZeros x) (fitted && ratioGood x) none e) in
-    leb-true 1 (x .denominator) (and-right top (leb 1 (x .denominator)) (and-left (top && leb 1 (x .denominator)) (leb (x .denominator) 10_000) ratio))
-
--- an input that a good sum names is fitted
-good-names : (inputs : List Input) (x i : ℕ) → sumGood (fittedIn inputs) x ≡ true → i < 16 → bitAt x i ≡ true → eqb (inputAt inputs i .kind) 0 ≡ false
-unfolding sumGood fittedIn
-good-names inputs x i e l on =
-    let stray = any-not 16 (λ k. bitAt x k && not (fittedIn inputs k)) (not-true _ e) i l in
-    let fitted : fittedIn inputs i ≡ true = not-false (fittedIn inputs i) (rw on at stray) in
-    not-true (eqb (inputAt inputs i .kind) 0) (and-right (ltb i 16) (not (eqb (inputAt inputs i .kind) 0)) fitted)
-
--- so each input that feeds a register in use has a denominator
+-- each input that feeds a register in use has a denominator
 pub feeds-divide : (c : Config) → Accepted c → (j : ℕ) → InUse c j → (i : ℕ) → i < 16 → bitAt (feeding c j) i ≡ true → 0 < inputAt (c .inputs) i .denominator
 unfolding sections feeding
 feeds-divide c a j used i l on =
@@ -64,7 +43,7 @@ always-books c j none second = rw none
 -- The recorder's amounts are the account's
 
 pub open-is : (c : Config) (time : ℕ) (calls : List Call) (j : ℕ) → InUse c j → openOf c time j calls ≡ amountOf c j (journalOf c time calls)
-unfolding billOf
+unfolding billIn
 open-is c time calls j used = ap (λ (b : Bill). b .amount) (agrees c time calls .bills j (used .0)) ∙ rw (lt-ltb (registerAt (c .registers) j .sum) 8 (used .1))
 
 -- no call but a reset closes a bill
@@ -84,7 +63,7 @@ module _ (c : Config) (j : ℕ) where
 -- a reset closes the open amount
 pub noted-is : (c : Config) (time : ℕ) (earlier : List Call) (j : ℕ) → InUse c j
     → billAt (reached c time (reset ∷ earlier) .state .bills) j .closed ≡ amountOf c j (journalOf c time earlier)
-unfolding withCall billOf accountOf
+unfolding withCall billIn accountOf
 noted-is c time earlier j used =
     ap (λ (b : Bill). b .closed) (agrees c time (reset ∷ earlier) .bills j (used .0)) ∙ rw (lt-ltb (registerAt (c .registers) j .sum) 8 (used .1))
 

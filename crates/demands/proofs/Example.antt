@@ -1,6 +1,5 @@
 -- The example's numbers: the account is computed, and the recorder's numbers are the account's by the theorems.
 use mathlib.Core.Path.{_≡_, refl, ap, _∙_}
-use mathlib.Core.List.{List}
 use Prim.Native.Nat.{ℕ, zero, suc, _<_}
 use native.Mathlib.Nat.{not-suc-le-zero, le-of-suc-le-suc}
 use native.Mathlib.Omega.{arith}
@@ -13,7 +12,8 @@ use Rattle.laws.specs.Total.{total}
 use Rattle.laws.specs.Spans.{span}
 use Rattle.laws.specs.Masks.{maskOf, bitAt}
 use Rattle.laws.specs.SignedTotal.{totalℤ}
-use Rattle.laws.specs.Tables.{table, table-cong}
+use Rattle.laws.specs.Tables.{table}
+use Rattle.laws.proofs.Tables.{table-cong}
 use Rattle.calendar.specs.Dates.{monthLength, yearLength}
 use Rattle.calendar.specs.Moments.{yearDay, momentOf}
 use Rattle.tariff.specs.Daily.{windowActive, dailyActive}
@@ -24,14 +24,14 @@ use Rattle.settings.specs.Rules.{noInput, fittedIn, sumGood}
 use Rattle.settings.specs.Check.{sections, firstBad, checked}
 use Rattle.image.proofs.Found.{good-exactly}
 use Rattle.counting.specs.Filter.{inputAt}
-use Rattle.counting.specs.Bills.{registerAt, namedPart, sumOf}
+use Rattle.counting.specs.Bills.{namedPart, sumOf}
 use Rattle.sampling.specs.Periods.{multiple}
 use Rattle.sampling.specs.Samples.{activeAt}
-use Rattle.recorder.specs.History.{Call, reading}
+use Rattle.recorder.specs.History.{reading}
 use Rattle.recorder.specs.Laws.{Good}
-use Rattle.demands.specs.Account.{Entry, Account, booksAt, feeding, amountOf, overfull, sampleNumber, readingNumber, stepped, counted, withCall, accountOf, journalOf}
+use Rattle.demands.specs.Account.{Account, booksAt, feeding, amountOf, overfull, numberOfSample, numberOfReading, stepped, counted, withCall, accountOf}
 use Rattle.demands.specs.Energy.{productOf}
-use Rattle.demands.specs.State.{valueOf, stateOf}
+use Rattle.demands.specs.State.{valueOf, stateIn}
 use Rattle.demands.specs.Shown.{awakeIn, fleetIn}
 use Rattle.demands.specs.Demand3.{openOf, closedOf, InUse, OnSum}
 use Rattle.demands.specs.Example.{twoMakers, start, calls, account, byDay, dayAndNightThrice, firstTwo, Numbers, Needed}
@@ -45,7 +45,7 @@ unfolding checked firstBad sections first fittedIn sumGood any bitAt
 is-good = good-exactly twoMakers .0 refl
 
 happened : accountOf twoMakers start calls ≡ account
-unfolding first any total span maskOf bitAt table monthLength yearLength yearDay momentOf windowActive dailyActive fitsAt firstHoliday columnOn referenceAt weeklyActive inSeason seasonActive applies inForce forceMap forceOf namedPart sumOf multiple activeAt booksAt feeding amountOf overfull sampleNumber readingNumber stepped counted withCall accountOf
+unfolding first any total span maskOf bitAt table monthLength yearLength yearDay momentOf windowActive dailyActive fitsAt firstHoliday columnOn referenceAt weeklyActive inSeason seasonActive applies inForce forceMap forceOf namedPart sumOf multiple activeAt booksAt feeding amountOf overfull numberOfSample numberOfReading stepped counted withCall accountOf
 happened = refl
 
 -- a longest run of the example is a byte
@@ -86,7 +86,7 @@ closed-as : table 8 (λ j. closedOf twoMakers start j calls) ≡ table 8 (λ j. 
 closed-as = table-cong 8 _ _ (λ j l. closed-is twoMakers start calls j (in-use j l) ∙ ap (λ (a : Account). closedIn twoMakers j (a .journal)) happened)
 
 pub numbers : Numbers
-unfolding first any total span maskOf bitAt table monthLength yearLength yearDay momentOf windowActive dailyActive fitsAt firstHoliday columnOn referenceAt weeklyActive inSeason seasonActive applies inForce forceMap forceOf namedPart sumOf multiple activeAt booksAt feeding amountOf overfull sampleNumber readingNumber stepped counted withCall accountOf productOf totalℤ valueOf stateOf awakeIn fleetIn
+unfolding first any total span maskOf bitAt table monthLength yearLength yearDay momentOf windowActive dailyActive fitsAt firstHoliday columnOn referenceAt weeklyActive inSeason seasonActive applies inForce forceMap forceOf namedPart sumOf multiple activeAt booksAt feeding amountOf overfull numberOfSample numberOfReading stepped counted withCall accountOf productOf totalℤ valueOf stateIn awakeIn fleetIn
 numbers =
     record {
       accepted = record { good = is-good; bytes = runs-bytes };
@@ -107,7 +107,7 @@ numbers =
     }
 
 pub needed : Needed
-unfolding first any total span maskOf bitAt table monthLength yearLength yearDay momentOf windowActive dailyActive fitsAt firstHoliday columnOn referenceAt weeklyActive inSeason seasonActive applies inForce forceMap forceOf namedPart sumOf multiple activeAt booksAt feeding amountOf overfull sampleNumber readingNumber stepped counted withCall accountOf productOf
+unfolding first any total span maskOf bitAt table monthLength yearLength yearDay momentOf windowActive dailyActive fitsAt firstHoliday columnOn referenceAt weeklyActive inSeason seasonActive applies inForce forceMap forceOf namedPart sumOf multiple activeAt booksAt feeding amountOf overfull numberOfSample numberOfReading stepped counted withCall accountOf productOf
 needed =
     record {
       few = open-is twoMakers start byDay 2 (in-use 2 (omega arith));

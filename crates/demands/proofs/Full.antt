@@ -1,22 +1,24 @@
 -- FULL and whole periods inside a history: the account of the example's 6,249 impulses of 160,000 units, by induction over the impulses; the recorder's numbers are the account's.
-use mathlib.Core.Path.{_≡_, refl, sym, ap, ap₂, subst, _∙_}
-use mathlib.Core.Bool.{Bool, true, false, _&&_, not, and-false}
+use mathlib.Core.Path.{_≡_, refl, ap, ap₂, _∙_}
+use mathlib.Core.Bool.{Bool, true, false, _&&_, and-false}
 use mathlib.Core.List.{List, [], _∷_}
-use Prim.Native.Nat.{ℕ, zero, suc, _+_, _-_, _*_, _/_, _%_, _<_, _≤_}
+use Prim.Native.Nat.{ℕ, zero, suc, _+_, _*_, _/_, _%_, _<_, _≤_}
 use native.Mathlib.Nat.{div-one, mul-mod-left}
 use native.Mathlib.Omega.{arith}
 use lib.Dec.{ltb, eqb}
 use lib.IntN.{pos, negsuc}
 use lib.ListN.{replicate, getD-replicate}
 use borrow.Author.Tests.{lt-ltb, le-ltb, ltb-true, eq-eqb, ne-eqb, eqb-true, eqb-false}
-use Rattle.laws.specs.If.{if_then_else_}
-use Rattle.laws.specs.Tests.{by-test}
+use Rattle.laws.proofs.Tests.{by-test}
 use Rattle.laws.specs.First.{first}
-use Rattle.laws.specs.Any.{any, any-at, any-none}
+use Rattle.laws.specs.Any.{any}
+use Rattle.laws.proofs.Any.{any-at, any-none}
 use Rattle.laws.specs.Total.{total}
 use Rattle.laws.specs.SignedTotal.{totalℤ}
-use Rattle.laws.specs.Masks.{bit, maskOf, bitAt, bit-at, bit-zero}
-use Rattle.laws.specs.Tables.{table, table-cong}
+use Rattle.laws.specs.Masks.{bit, maskOf, bitAt}
+use Rattle.laws.proofs.Masks.{bit-at, bit-zero}
+use Rattle.laws.specs.Tables.{table}
+use Rattle.laws.proofs.Tables.{table-cong}
 use Rattle.settings.specs.Rules.{fittedIn, sumGood}
 use Rattle.settings.specs.Check.{sections, firstBad, checked}
 use Rattle.settings.specs.declared.Config.{Config}
@@ -26,13 +28,12 @@ use Rattle.counting.specs.Filter.{inputAt}
 use Rattle.counting.specs.Bills.{registerAt, namedPart, sumOf}
 use Rattle.sampling.specs.Periods.{multiple}
 use Rattle.sampling.specs.Samples.{activeAt}
-use Rattle.sampling.specs.declared.State.{State}
-use Rattle.recorder.specs.History.{Call, sample, reset}
+use Rattle.recorder.specs.History.{sample, reset}
 use Rattle.recorder.specs.Laws.{Good}
 use Rattle.recorder.specs.declared.Recorder.{Recorder}
-use Rattle.demands.specs.Account.{Entry, took, ended, cleared, Time, Account, Ended, runOf, whole, inPeriod, unitsIn, periodsOf, always, impulsesOf, inUse, booksAt, feeding, amountOf, nextSample, dueTo, overfull, sampleNumber, stepped, counted, withCall, accountOf, journalOf}
+use Rattle.demands.specs.Account.{took, Account, Ended, runOf, whole, inPeriod, unitsIn, periodsOf, always, impulsesOf, inUse, booksAt, feeding, amountOf, nextSample, dueTo, overfull, numberOfSample, stepped, counted, withCall, accountOf}
 use Rattle.demands.specs.Starts.{Accepted}
-use Rattle.demands.specs.State.{valueOf, lastPeriod, stateOf}
+use Rattle.demands.specs.State.{valueOf, lastPeriod, stateIn}
 use Rattle.demands.specs.Demand2.{reached}
 use Rattle.demands.specs.Demand3.{closedOf, InUse}
 use Rattle.demands.specs.Example.{fullMaker, pulses, nearlyFull, Filled}
@@ -102,8 +103,8 @@ module _ (c : Config) (h : Big c) where
     not-end : (eqb (a .time .second) 4_294_967_295 && eqb (a .time .samples) 99) ≡ false
     not-end = rw (ne-eqb (a .time .second) 4_294_967_295 (λ e. omega (arith, e)))
 
-    accepts : amountOf c 0 (a .journal) + dueTo c 0 (nextSample c a bits) ≤ 999_999_999 → sampleNumber c a bits ≡ 0
-    unfolding sampleNumber overfull
+    accepts : amountOf c 0 (a .journal) + dueTo c 0 (nextSample c a bits) ≤ 999_999_999 → numberOfSample c a bits ≡ 0
+    unfolding numberOfSample overfull
     accepts within =
         let none : any 16 (overfull c (a .journal) (nextSample c a bits)) ≡ false =
         any-none 16 _
@@ -113,8 +114,8 @@ module _ (c : Config) (h : Big c) where
         (λ f. rw f)) in
         rw (not-end, none)
 
-    refuses : 0 < dueTo c 0 (nextSample c a bits) → 999_999_999 < amountOf c 0 (a .journal) + dueTo c 0 (nextSample c a bits) → sampleNumber c a bits ≡ 6
-    unfolding sampleNumber overfull
+    refuses : 0 < dueTo c 0 (nextSample c a bits) → 999_999_999 < amountOf c 0 (a .journal) + dueTo c 0 (nextSample c a bits) → numberOfSample c a bits ≡ 6
+    unfolding numberOfSample overfull
     refuses some past =
         let full : any 16 (overfull c (a .journal) (nextSample c a bits)) ≡ true = any-at 16 _ 0 (omega arith) (rw (h .used, lt-ltb 0 _ some, lt-ltb 999_999_999 _ past)) in
         rw (not-end, full)
@@ -127,7 +128,7 @@ module _ (c : Config) (h : Big c) where
   up-gets : (a : Account) → dueTo c 0 (nextSample c a 65_535) ≡ 0
   up-gets a = gets a 65_535 0 (up-units a) ∙ added-zero (bitAt 65_535) _ 16 (λ i l e. refl)
 
-  up : (n m : ℕ) (a : Account) → sampleNumber c a 65_535 ≡ 0 → At c false n m a → At c true n m (withCall c a (sample 65_535))
+  up : (n m : ℕ) (a : Account) → numberOfSample c a 65_535 ≡ 0 → At c false n m a → At c true n m (withCall c a (sample 65_535))
   unfolding withCall counted amountOf
   up n m a taken at =
       let even : eqb (a .time .samples) 99 ≡ false = ne-eqb (a .time .samples) 99 (λ e. omega (arith, at .samples, e)) in
@@ -156,7 +157,7 @@ module _ (c : Config) (h : Big c) where
   minutes t = ap (λ (p : ℕ). multiple p t) (h .minute)
 
   -- the second begins anew with the fiftieth impulse, and the period with the 3,000th
-  down : (n m : ℕ) (a : Account) → sampleNumber c a 0 ≡ 0 → At c true n m a → At c false (suc n) (suc m) (withCall c a (sample 0))
+  down : (n m : ℕ) (a : Account) → numberOfSample c a 0 ≡ 0 → At c true n m a → At c false (suc n) (suc m) (withCall c a (sample 0))
   unfolding withCall counted stepped amountOf
   down n m a taken at =
       let runs : (i : ℕ) → i < 16 → runOf c i (took 0 (a .time .second) ∷ a .journal) ≡ 0 = λ i l. rw (open-off i l) in
@@ -223,10 +224,10 @@ module _ (c : Config) (h : Big c) where
   -- The history
 
   -- the samples of impulse n + 1 are accepted
-  takes-up : (n m : ℕ) (a : Account) → n ≤ 6_249 → m ≤ 6_249 → At c false n m a → sampleNumber c a 65_535 ≡ 0
+  takes-up : (n m : ℕ) (a : Account) → n ≤ 6_249 → m ≤ 6_249 → At c false n m a → numberOfSample c a 65_535 ≡ 0
   takes-up n m a l k at = accepts a 65_535 (omega (arith, at .second)) (omega (arith, at .amount, up-gets a))
 
-  takes-down : (n m : ℕ) (a : Account) → n ≤ 6_249 → m < 6_249 → At c true n m a → sampleNumber c a 0 ≡ 0
+  takes-down : (n m : ℕ) (a : Account) → n ≤ 6_249 → m < 6_249 → At c true n m a → numberOfSample c a 0 ≡ 0
   takes-down n m a l k at = accepts a 0 (omega (arith, at .second)) (omega (arith, at .amount, down-gets n m a at))
 
   fresh : At c false 0 0 (accountOf c 0 [])
@@ -256,7 +257,7 @@ module _ (c : Config) (h : Big c) where
   at-full = let old = at-pulses 6_249 (omega arith) in up 6_249 6_249 _ (takes-up 6_249 6_249 _ (omega arith) (omega arith) old) old
 
   -- the next sample is refused, and enters nothing
-  full-number : sampleNumber c (accountOf c 0 (sample 65_535 ∷ pulses 6_249)) 0 ≡ 6
+  full-number : numberOfSample c (accountOf c 0 (sample 65_535 ∷ pulses 6_249)) 0 ≡ 6
   full-number =
       let gets = down-gets 6_249 6_249 _ at-full in
       refuses _ 0 (omega (arith, at-full .second)) (omega (arith, gets)) (omega (arith, gets, at-full .amount))
@@ -330,7 +331,7 @@ minute-values = refl
 
 last-minute : reached fullMaker 0 nearlyFull .state .closed
     ≡ record { state = 2; stamp = 120; values = pos 30_000_000 ∷ pos 480_000_000 ∷ negsuc 479_999_999 ∷ replicate 13 (pos 0) }
-unfolding stateOf
+unfolding stateIn
 last-minute =
     ap (λ (r : Recorder). r .state .closed) (state-of-history fullMaker full-accepted 0 nearlyFull)
     ∙ (ap (lastPeriod fullMaker) (at-full fullMaker full-big .period (omega arith) .1) ∙ minute-values)

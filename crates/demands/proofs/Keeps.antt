@@ -1,26 +1,26 @@
 -- What a sample does to the recorder's lines and bills, place by place, from its definitions.
-use mathlib.Core.Path.{_≡_, refl, ap, _∙_}
-use mathlib.Core.Bool.{Bool, true, false, _&&_, not}
+use mathlib.Core.Path.{_≡_, ap, _∙_}
+use mathlib.Core.Bool.{Bool, true, false}
 use mathlib.Core.List.{List}
 use Prim.Native.Nat.{ℕ, _+_, _<_}
-use lib.Dec.{ltb}
 use lib.ListN.{getD}
 use borrow.Author.Tests.{lt-ltb, ltb-true}
-use Rattle.laws.specs.If.{if_then_else_, if-same}
-use Rattle.laws.specs.Any.{any-not}
-use Rattle.laws.specs.Total.{total-cong}
-use Rattle.laws.specs.Masks.{bitAt, bit-at}
-use Rattle.laws.specs.Tables.{table-at}
+use Rattle.laws.specs.If.{if_then_else_}
+use Rattle.laws.proofs.If.{if-same}
+use Rattle.laws.proofs.Any.{any-not}
+use Rattle.laws.proofs.Total.{total-cong}
+use Rattle.laws.specs.Masks.{bitAt}
+use Rattle.laws.proofs.Masks.{bit-at}
+use Rattle.laws.proofs.Tables.{table-at}
 use Rattle.tariff.specs.Rules.{forceMapAt}
 use Rattle.settings.specs.declared.Config.{Config}
 use Rattle.settings.specs.declared.Input.{Input}
 use Rattle.counting.specs.Filter.{inputAt, lineAt, accepted, filtered, filteredAt, acceptedAt, steppedOf}
 use Rattle.counting.specs.Units.{unitsOf, unitsIf, creditIf, creditedAt, unitsAt, creditsOf}
-use Rattle.counting.specs.Bills.{feeds, fills, registerAt, billAt, unitAt, partOf, namedPart, sumOf, sumAt, sumsOf, registerUnits, dueOf, billed, dueAt, fillsAt, billedAt, bookedOf, withAmount}
+use Rattle.counting.specs.Bills.{feeds, registerAt, billAt, unitAt, partOf, namedPart, sumOf, sumAt, sumsOf, registerUnits, dueOf, billed, dueAt, fillsAt, billedAt, bookedOf, withAmount}
 use Rattle.sampling.specs.Periods.{cleared, clearedAt, clearedLines}
 use Rattle.sampling.specs.Samples.{bookingOf, activeAt, activeLines, bookingOn, putIn}
 use Rattle.counting.specs.declared.Line.{Line}
-use Rattle.counting.specs.declared.Bill.{Bill}
 use Rattle.sampling.specs.declared.State.{State}
 use Rattle.demands.specs.Account.{inUse, booksAt, feeding}
 

@@ -1,51 +1,49 @@
 -- The units of the running period and the last closed period are what the history says, under a configuration that the image check accepts; and with them the whole state.
-use mathlib.Core.Path.{_≡_, refl, sym, ap, ap₂, subst, _∙_}
+use mathlib.Core.Path.{_≡_, refl, sym, ap, ap₂, _∙_}
 use mathlib.Core.Bool.{Bool, true, false, _&&_, _||_}
 use mathlib.Core.List.{List, [], _∷_}
 use mathlib.Core.Logic.{⊎-elim}
 use Prim.Native.Nat.{ℕ, _+_, _*_, _%_, _<_}
 use native.Mathlib.Nat.{add-zero, mul-zero}
-use native.Mathlib.Omega.{arith}
-use borrow.Author.Tests.{eqb-true, leb-true}
+use borrow.Author.Tests.{eqb-true}
 use lib.Dec.{eqb, ltb, leb}
-use lib.IntN.{ℤ, pos}
+use lib.IntN.{ℤ}
 use lib.ListN.{length, getD, getD-replicate}
 use Rattle.laws.specs.If.{if_then_else_}
-use Rattle.laws.specs.Tests.{by-test, and-left, and-right, or-right}
-use Rattle.laws.specs.Tables.{table, table-cong, table-self}
-use Rattle.settings.specs.Rules.{runsGood, ratioGood, sixZeros, inputGood, fittedIn, slotGood, noSlot}
+use Rattle.laws.proofs.Tests.{by-test, and-left}
+use Rattle.laws.specs.Tables.{table}
+use Rattle.laws.proofs.Tables.{table-cong, table-self}
+use Rattle.settings.specs.Rules.{inputGood, fittedIn, slotGood, noSlot}
 use Rattle.settings.specs.Check.{sections}
 use Rattle.settings.specs.declared.Config.{Config}
 use Rattle.settings.specs.declared.Input.{Input}
 use Rattle.settings.specs.declared.Slot.{Slot}
 use Rattle.counting.specs.Filter.{inputAt, lineAt, filtered}
 use Rattle.counting.specs.Units.{unitsOf, heldSum, credited, creditIf}
-use Rattle.counting.specs.Bills.{billAt, unitAt, sumAt}
+use Rattle.counting.specs.Bills.{sumAt}
 use Rattle.counting.specs.Levels.{level0At, level0, termAt, level2, inputValue, sumValue, functionValue, slotValue, slotValueAt, slotValues}
 use Rattle.sampling.specs.Periods.{multiple, cleared, clearedLines, closedAs, stateOf as stateAs, tickOf}
 use Rattle.sampling.specs.Samples.{activeAt, bookingOn, countedOf, sampleOf}
 use Rattle.recorder.specs.Clock.{setTo, setOf, resetOf}
 use Rattle.recorder.specs.Meters.{readingOf}
 use Rattle.recorder.specs.Calls.{freshState, replyTo}
-use Rattle.recorder.specs.History.{Call, sample, set as set-call, reading, reset, afterAll}
+use Rattle.recorder.specs.History.{Call, sample, set as set-call, reading, reset}
 use Rattle.recorder.specs.Laws.{Good}
-use Rattle.registers.specs.Fleet.{meterAt}
 use Rattle.counting.specs.declared.Line.{Line}
 use Rattle.counting.specs.declared.Bill.{Bill}
 use Rattle.sampling.specs.declared.Meter.{Meter}
 use Rattle.sampling.specs.declared.Period.{Period}
 use Rattle.sampling.specs.declared.State.{State}
-use Rattle.recorder.specs.declared.Recorder.{Recorder}
 use Rattle.calendar.proofs.Moments.{dated-or-not}
 use Rattle.recorder.proofs.Sound.{config-stays, reached-is-sound}
 use Rattle.recorder.proofs.Bounded.{hold-never-acts}
-use Rattle.demands.specs.Account.{Entry, took, ended, Account, always, impulsesOf, unitsIn, whole, inPeriod, periodsOf, lastReading, stepped, counted, withCall, readingNumber, accountOf}
-use Rattle.demands.specs.Starts.{Accepted}
-use Rattle.demands.specs.State.{lineOf, billOf, meterOf, valueOf, lastPeriod, stateOf}
+use Rattle.demands.specs.Account.{Entry, ended, Account, always, impulsesOf, unitsIn, whole, inPeriod, periodsOf, lastReading, stepped, counted, withCall, numberOfReading, accountOf}
+use Rattle.demands.specs.State.{lineIn, billIn, meterIn, valueOf, lastPeriod, stateIn}
 use Rattle.demands.specs.Demand2.{reached, StateOfHistory}
+use Rattle.demands.proofs.Inputs.{no-numerator}
 use Rattle.demands.proofs.Units.{leftOver}
-use Rattle.demands.proofs.Keeps.{bringsAt, broughtAt, bookedState, line-after, cleared-line}
-use Rattle.demands.proofs.Agrees.{Agrees, LineAgrees, same-units, longer, booked-agrees, hundredth, sample-case, agrees}
+use Rattle.demands.proofs.Keeps.{bringsAt, bookedState, line-after, cleared-line}
+use Rattle.demands.proofs.Agrees.{Agrees, same-units, longer, booked-agrees, hundredth, sample-case, stateAfter, by-calls, agrees}
 
 -- units of the running period, and the last closed period
 record Closes (c : Config) (s : State) (a : Account) : Type 0 where
@@ -175,7 +173,7 @@ set-closes c s a seconds good both old =
 
 reading-closes : (c : Config) (s : State) (a : Account) (meter : ℕ) (v : ℤ) (status seq : ℕ) → Closes c s a
     → Closes c (replyTo s (readingOf c s meter v status seq) .state) (withCall c a (reading meter v status seq))
-unfolding readingOf readingNumber withCall
+unfolding readingOf numberOfReading withCall
 reading-closes c s a meter v status seq old =
     by-test (ltb 31 meter) (λ t. rw t old)
     (λ f.
@@ -192,44 +190,18 @@ fresh-closes : (c : Config) (time : ℕ) → Closes c (freshState time) (account
 unfolding freshState accountOf
 fresh-closes c time = record { units = λ i l. ap (λ (y : Line). y .units) (getD-replicate 16 i _ _ l); closed = refl }
 
+call-closes : (c : Config) (s : State) (a : Account) (call : Call) → Good c → Agrees c s a → Free c s → Closes c s a → Closes c (stateAfter c s call) (withCall c a call)
+call-closes c s a (sample bits) good both free old = sample-closes c s a bits good both old free
+call-closes c s a (set-call seconds) good both free old = set-closes c s a seconds good both old
+call-closes c s a (reading meter v status seq) good both free old = reading-closes c s a meter v status seq old
+call-closes c s a reset good both free old = reset-closes c s a old
+
 closes : (c : Config) → Good c → (time : ℕ) (calls : List Call) → Closes c (reached c time calls .state) (accountOf c time calls)
-unfolding afterAll accountOf
-closes c good time [] = fresh-closes c time
-closes c good time (sample bits ∷ earlier) =
-    let r = reached c time earlier in
-    let a = accountOf c time earlier in
-    subst (λ (k : Config). Closes c (replyTo (r .state) (sampleOf k (r .state) bits) .state) (withCall c a (sample bits))) (sym (config-stays c time earlier))
-    (sample-closes c (r .state) a bits good (agrees c time earlier) (closes c good time earlier) (hold-never-acts c good time earlier))
-closes c good time (set-call seconds ∷ earlier) =
-    let r = reached c time earlier in
-    let a = accountOf c time earlier in
-    subst (λ (k : Config). Closes c (replyTo (r .state) (setOf k (r .state) seconds) .state) (withCall c a (set-call seconds))) (sym (config-stays c time earlier))
-    (set-closes c (r .state) a seconds good (agrees c time earlier) (closes c good time earlier))
-closes c good time (reading meter v status seq ∷ earlier) =
-    let r = reached c time earlier in
-    let a = accountOf c time earlier in
-    subst (λ (k : Config). Closes c (replyTo (r .state) (readingOf k (r .state) meter v status seq) .state) (withCall c a (reading meter v status seq))) (sym (config-stays c time earlier))
-    (reading-closes c (r .state) a meter v status seq (closes c good time earlier))
-closes c good time (reset ∷ earlier) =
-    let r = reached c time earlier in
-    let a = accountOf c time earlier in
-    subst (λ (k : Config). Closes c (resetOf k (r .state)) (withCall c a reset)) (sym (config-stays c time earlier))
-    (reset-closes c (r .state) a (closes c good time earlier))
+closes c good time =
+    by-calls c time (Closes c) (fresh-closes c time)
+    (λ earlier call. call-closes c (reached c time earlier .state) (accountOf c time earlier) call good (agrees c time earlier) (hold-never-acts c good time earlier))
 
 -- The whole state
-
--- an input without a denominator has no numerator
-no-numerator : (x : Input) → inputGood x ≡ true → x .denominator ≡ 0 → x .numerator ≡ 0
-no-numerator x good none =
-    let zeros = (eqb (x .shortest) 0 && eqb (x .longest) 0) && eqb (x .numerator) 0 in
-    let fitted = (eqb (x .kind) 1 || eqb (x .kind) 2) && runsGood x in
-    let top = leb 1 (x .numerator) && leb (x .numerator) 10_000 in
-    by-test (eqb (x .kind) 0 && sixZeros x)
-    (λ t. eqb-true (x .numerator) 0 (and-right (eqb (x .shortest) 0 && eqb (x .longest) 0) (eqb (x .numerator) 0) (and-left zeros (eqb (x .denominator) 0) (and-right (eqb (x .kind) 0) (sixZeros x) t))))
-    (λ f.
-    let ratio = and-right fitted (ratioGood x) (or-right (eqb (x .kind) 0 && sixZeros x) (fitted && ratioGood x) f good) in
-    let some = leb-true 1 (x .denominator) (and-right top (leb 1 (x .denominator)) (and-left (top && leb 1 (x .denominator)) (leb (x .denominator) 10_000) ratio)) in
-    absurd (omega arith))
 
 -- what whole denominators leave, also of an input that is not fitted: it has six zeros
 left-good : (x : Input) (n : ℕ) → inputGood x ≡ true → leftOver x n ≡ n * x .numerator % x .denominator
@@ -251,8 +223,8 @@ state-by : (s : State) (clock samples first : ℕ) (lines : List Line) (bills : 
     → s ≡ record { clock = clock; samples = samples; first = first; lines = lines; bills = bills; meters = meters; closed = closed }
 state-by s clock samples first lines bills meters closed a b d e f g h = rw (← a, ← b, ← d, ← e, ← f, ← g, ← h)
 
-line-is : (c : Config) → Good c → (s : State) (a : Account) → Agrees c s a → Closes c s a → (i : ℕ) → i < 16 → lineAt (s .lines) i ≡ lineOf c (a .journal) i
-unfolding lineOf sections
+line-is : (c : Config) → Good c → (s : State) (a : Account) → Agrees c s a → Closes c s a → (i : ℕ) → i < 16 → lineAt (s .lines) i ≡ lineIn c (a .journal) i
+unfolding lineIn sections
 line-is c good s a both old i l =
     let y = both .lines i l in
     let left : lineAt (s .lines) i .remainder ≡ impulsesOf always i (whole c (a .journal)) * inputAt (c .inputs) i .numerator % inputAt (c .inputs) i .denominator =
@@ -263,17 +235,17 @@ line-is c good s a both old i l =
 list-is : {A : Type 0} (n : ℕ) (xs : List A) (d : A) (f : ℕ → A) → length xs ≡ n → ((i : ℕ) → i < n → getD xs i d ≡ f i) → xs ≡ table n f
 list-is n xs d f long each = sym (table-self n xs d long) ∙ table-cong n _ f each
 
-pub state-is : (c : Config) → Good c → (time : ℕ) (calls : List Call) → reached c time calls .state ≡ stateOf c (accountOf c time calls)
-unfolding stateOf
+pub state-is : (c : Config) → Good c → (time : ℕ) (calls : List Call) → reached c time calls .state ≡ stateIn c (accountOf c time calls)
+unfolding stateIn
 state-is c good time calls =
     let s = reached c time calls .state in
     let a = accountOf c time calls in
     let both = agrees c time calls in
     let old = closes c good time calls in
     let sound = reached-is-sound c time calls in
-    let lines : s .lines ≡ table 16 (lineOf c (a .journal)) = list-is 16 (s .lines) _ _ (sound .lines .sixteen) (line-is c good s a both old) in
-    let bills : s .bills ≡ table 16 (billOf c (a .journal)) = list-is 16 (s .bills) _ _ (sound .bills .sixteen) (both .bills) in
-    let meters : s .meters ≡ table 32 (λ i. meterOf (lastReading (a .journal) i)) = list-is 32 (s .meters) _ _ (sound .meters) (both .meters) in
+    let lines : s .lines ≡ table 16 (lineIn c (a .journal)) = list-is 16 (s .lines) _ _ (sound .lines .sixteen) (line-is c good s a both old) in
+    let bills : s .bills ≡ table 16 (billIn c (a .journal)) = list-is 16 (s .bills) _ _ (sound .bills .sixteen) (both .bills) in
+    let meters : s .meters ≡ table 32 (λ i. meterIn (lastReading (a .journal) i)) = list-is 32 (s .meters) _ _ (sound .meters) (both .meters) in
     state-by s _ _ _ _ _ _ _ (both .clock) (both .samples) (both .first) lines bills meters (old .closed)
 
 pub state-of-history : StateOfHistory

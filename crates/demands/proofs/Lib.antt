@@ -1,6 +1,7 @@
 -- The proofs of the statements in specs/.
 pub mod Sums
 pub mod Units
+pub mod Inputs
 pub mod Rounding
 pub mod Starts
 pub mod Keeps

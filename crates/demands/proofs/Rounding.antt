@@ -1,9 +1,9 @@
 -- One input over a list of samples (newest first): the remainder it ends with, the units it pays while `on`, and how far these may be from the exact energy.
-use mathlib.Core.Path.{_≡_, refl, sym, ap, _∙_}
+use mathlib.Core.Path.{_≡_, refl, ap, _∙_}
 use mathlib.Core.Bool.{Bool, true, false, not, _&&_}
 use mathlib.Core.List.{List, [], _∷_}
 use Prim.Native.Nat.{ℕ, zero, suc, pred, _+_, _*_, _/_, _%_, _≤_, _<_}
-use native.Mathlib.Nat.{add-mul, add-zero, one-mul, zero-mul, mul-suc, mul-comm, mod-lt, div-add-mod', div-eq-of-lt-le}
+use native.Mathlib.Nat.{add-mul, add-zero, one-mul, zero-mul, mul-suc, mul-comm, mod-lt, div-add-mod'}
 use native.Mathlib.Omega.{arith}
 use Rattle.laws.specs.If.{if_then_else_}
 use Rattle.laws.specs.Masks.{bit}

@@ -2,36 +2,32 @@
 use mathlib.Core.Path.{_≡_, refl, sym, ap, ap₂, _∙_}
 use mathlib.Core.Bool.{Bool, true, false, true≢false, not, _&&_, cond}
 use mathlib.Core.List.{List, [], _∷_, _++_}
-use Prim.Native.Nat.{ℕ, zero, suc, _+_, _%_, _/_, _<_}
+use Prim.Native.Nat.{ℕ, zero, suc, _+_, _%_, _<_}
 use native.Mathlib.Nat.{le-refl, not-suc-le-zero}
 use native.Mathlib.Omega.{arith}
 use borrow.Author.Tests.{eqb-true, leb-false, not-true}
 use lib.Dec.{ltb, leb, eqb}
 use lib.IntN.{ℤ, pos}
-use lib.ListN.{getD, length, drop}
+use lib.ListN.{getD, drop}
 use Rattle.laws.specs.If.{if_then_else_}
-use Rattle.laws.specs.Tests.{by-test, and-left, and-right}
+use Rattle.laws.proofs.Tests.{by-test, and-left, and-right}
 use Rattle.laws.specs.Answers.{Answer, given, refused}
-use Rattle.laws.specs.Bytes.{bytesOf}
 use Rattle.laws.specs.Counts.{countOf}
 use Rattle.laws.specs.Masks.{bit}
 use Rattle.laws.specs.SignedTotal.{totalℤ}
-use Rattle.laws.specs.Tables.{table, table-at}
-use Rattle.laws.specs.Total.{total, total-cong}
+use Rattle.laws.proofs.Tables.{table-at}
+use Rattle.laws.proofs.Total.{total-cong}
 use Rattle.settings.specs.declared.Config.{Config}
 use Rattle.recorder.specs.Meters.{classOf}
-use Rattle.recorder.specs.History.{Call}
 use Rattle.sampling.specs.declared.Meter.{Meter}
-use Rattle.sampling.specs.declared.State.{State}
 use Rattle.recorder.specs.declared.Recorder.{Recorder}
-use Rattle.counting.specs.declared.Bill.{Bill}
 use Rattle.registers.specs.Fleet.{meterAt, meterClass, classAt, hasClass, hasAny, awakeValue, awakeSum, classesOf, fleetOf}
 use Rattle.registers.specs.Contents.{statusShown, serialBytes, meterBytes, mapBytes, resultBytes, dailyBytes, weeklyBytes, level9Bytes, slotBytes, billBytes, inputBytes, fleetBytes, clockBytes}
 use Rattle.registers.specs.Registers.{Group, groups, lookUp, groupOf, registersIn, registersOf, contentsOf, replyOf, registerReply}
 use Rattle.registers.proofs.Laws.{given-first, marked-by-class, unmarked-by-class}
-use Rattle.demands.specs.Account.{Entry, took, ended, cleared, heard, Account, Reading, lastReading, lastReset, inUse, amountOf, accountOf}
-use Rattle.demands.specs.State.{lineOf, billOf, meterOf, lastPeriod, stateOf}
-use Rattle.demands.specs.Shown.{isNever, isStale, isInvalid, isAwake, awakeIn, fleetIn, serialShown, billShown, shown}
+use Rattle.demands.specs.Account.{Entry, took, ended, cleared, heard, Account, Reading, lastReading, lastReset, inUse, accountOf}
+use Rattle.demands.specs.State.{lineIn, billIn, meterIn, stateIn}
+use Rattle.demands.specs.Shown.{isNever, isStale, isInvalid, awakeIn, fleetIn, serialShown, billShown, shown}
 use Rattle.demands.specs.Demand2.{reached, RegistersOfHistory, FleetOfHistory, InvalidMark, AwakeUnmarked}
 use Rattle.demands.proofs.Levels.{state-of-history}
 
@@ -79,7 +75,7 @@ totalℤ-cong (suc n) f g h = rw (h n (le-refl (suc n)), totalℤ-cong n f g (λ
 
 module _ (c : Config) (a : Account) where
   abbrev spelled : Recorder
-  spelled = record { config = c; state = stateOf c a }
+  spelled = record { config = c; state = stateIn c a }
 
   abbrev limit : ℕ → ℕ
   limit i = getD (c .limits) i 0
@@ -87,21 +83,21 @@ module _ (c : Config) (a : Account) where
   abbrev last : ℕ → Reading
   last i = lastReading (a .journal) i
 
-  meter-is : (i : ℕ) → i < 32 → meterAt (stateOf c a .meters) i ≡ meterOf (last i)
-  unfolding stateOf
-  meter-is i l = table-at 32 (λ i. meterOf (last i)) i _ l
+  meter-is : (i : ℕ) → i < 32 → meterAt (stateIn c a .meters) i ≡ meterIn (last i)
+  unfolding stateIn
+  meter-is i l = table-at 32 (λ i. meterIn (last i)) i _ l
 
   -- the class of meter i
-  class-is : (i : ℕ) → i < 32 → classAt (c .limits) (stateOf c a .meters) (stateOf c a .clock) i ≡ meterClass (limit i) (meterOf (last i)) (a .time .second)
-  unfolding classAt stateOf
+  class-is : (i : ℕ) → i < 32 → classAt (c .limits) (stateIn c a .meters) (stateIn c a .clock) i ≡ meterClass (limit i) (meterIn (last i)) (a .time .second)
+  unfolding classAt stateIn
   class-is i l = ap (λ (m : Meter). meterClass (limit i) m (a .time .second)) (meter-is i l)
 
-  listed : (i : ℕ) → i < 32 → getD (classesOf spelled) i 0 ≡ meterClass (limit i) (meterOf (last i)) (a .time .second)
-  listed i l = table-at 32 (classAt (c .limits) (stateOf c a .meters) (stateOf c a .clock)) i 0 l ∙ class-is i l
+  listed : (i : ℕ) → i < 32 → getD (classesOf spelled) i 0 ≡ meterClass (limit i) (meterIn (last i)) (a .time .second)
+  listed i l = table-at 32 (classAt (c .limits) (stateIn c a .meters) (stateIn c a .clock)) i 0 l ∙ class-is i l
 
   -- the conditions on meter i
-  conditions : (i : ℕ) → Classes (eqb (limit i) 0) (last i .read) (ltb (last i .stamp + limit i) (a .time .second)) (eqb (last i .status % 2) 1) (meterClass (limit i) (meterOf (last i)) (a .time .second))
-  conditions i = classes (limit i) (meterOf (last i)) (a .time .second)
+  conditions : (i : ℕ) → Classes (eqb (limit i) 0) (last i .read) (ltb (last i .stamp + limit i) (a .time .second)) (eqb (last i .status % 2) 1) (meterClass (limit i) (meterIn (last i)) (a .time .second))
+  conditions i = classes (limit i) (meterIn (last i)) (a .time .second)
 
   awake-is : (i : ℕ) → i < 32 → hasClass (classesOf spelled) 0 i ≡ awakeIn c a i
   unfolding hasClass awakeIn
@@ -116,7 +112,7 @@ module _ (c : Config) (a : Account) where
       let stale = count (λ i. eqb (getD (classesOf spelled) i 0) 1) (λ i. isStale (limit i) (last i .read) (last i .stamp) (a .time .second)) (λ i l. rw (listed i l) (conditions i .stale)) in
       let invalid = count (λ i. eqb (getD (classesOf spelled) i 0) 2) (λ i. isInvalid (limit i) (last i .read) (last i .stamp) (last i .status) (a .time .second)) (λ i l. rw (listed i l) (conditions i .invalid)) in
       let never = count (λ i. eqb (getD (classesOf spelled) i 0) 3) (λ i. isNever (limit i) (last i .read)) (λ i l. rw (listed i l) (conditions i .never)) in
-      let sum : totalℤ 32 (λ i. cond (hasClass (classesOf spelled) 0 i) (meterAt (stateOf c a .meters) i .value) (pos 0)) ≡ totalℤ 32 (λ i. cond (awakeIn c a i) (last i .value) (pos 0)) =
+      let sum : totalℤ 32 (λ i. cond (hasClass (classesOf spelled) 0 i) (meterAt (stateIn c a .meters) i .value) (pos 0)) ≡ totalℤ 32 (λ i. cond (awakeIn c a i) (last i .value) (pos 0)) =
       totalℤ-cong 32 _ _ (λ i l. ap₂ (λ (b : Bool) (v : ℤ). cond b v (pos 0)) (awake-is i l) (ap (λ (m : Meter). m .value) (meter-is i l))) in
       rw (fitted, awake, stale, invalid, never, sum)
 
@@ -139,18 +135,18 @@ module _ (c : Config) (a : Account) where
   unclosed j (cleared t ∷ l) e = absurd (true≢false e)
   unclosed j (heard t meter v status seq ∷ l) e = unclosed j l e
 
-  serial-is : (i : ℕ) → i < 32 → meterBytes c (stateOf c a) i ≡ serialShown (last i) (awakeIn c a i)
+  serial-is : (i : ℕ) → i < 32 → meterBytes c (stateIn c a) i ≡ serialShown (last i) (awakeIn c a i)
   unfolding meterBytes serialBytes statusShown awakeIn
   serial-is i l =
       rw (class-is i l, meter-is i l)
-      (by-test (eqb (meterClass (limit i) (meterOf (last i)) (a .time .second)) 3)
+      (by-test (eqb (meterClass (limit i) (meterIn (last i)) (a .time .second)) 3)
       (λ never.
       let both : (not (eqb (limit i) 0) && not (last i .read)) ≡ true = sym (conditions i .never) ∙ never in
       rw (never, unread (a .journal) i (not-true _ (and-right (not (eqb (limit i) 0)) (not (last i .read)) both)), and-left (not (eqb (limit i) 0)) (not (last i .read)) both))
       (λ heard. rw (heard, conditions i .awake)))
 
-  bill-is : (j : ℕ) → billBytes (billOf c (a .journal) j) ≡ billShown (billOf c (a .journal) j)
-  unfolding billBytes billOf
+  bill-is : (j : ℕ) → billBytes (billIn c (a .journal) j) ≡ billShown (billIn c (a .journal) j)
+  unfolding billBytes billIn
   bill-is j =
       by-test (inUse c j)
       (λ u.
@@ -159,7 +155,7 @@ module _ (c : Config) (a : Account) where
 
   -- each line of the table holds what the account shows, in as many registers as it has
   contents-are : (group i : ℕ) → i < registersOf group → contentsOf spelled group i ≡ shown c a group i
-  unfolding groups lookUp shown mapBytes dailyBytes weeklyBytes resultBytes slotBytes level9Bytes inputBytes fleetBytes clockBytes stateOf
+  unfolding groups lookUp shown mapBytes dailyBytes weeklyBytes resultBytes slotBytes level9Bytes inputBytes fleetBytes clockBytes stateIn
   contents-are group i l =
       by-test (eqb group 82) (λ t. rw t (serial-is i (rw t at l)))
       (λ a₁.
@@ -171,9 +167,9 @@ module _ (c : Config) (a : Account) where
       (λ a₄.
       by-test (eqb group 201) (λ t. rw (a₁, a₂, a₃, a₄, t))
       (λ a₅.
-      by-test (eqb group 202) (λ t. rw (a₁, a₂, a₃, a₄, a₅, t) (ap billBytes (table-at 16 (billOf c (a .journal)) i _ (rw (a₁, a₂, a₃, a₄, a₅, t) at l)) ∙ bill-is i))
+      by-test (eqb group 202) (λ t. rw (a₁, a₂, a₃, a₄, a₅, t) (ap billBytes (table-at 16 (billIn c (a .journal)) i _ (rw (a₁, a₂, a₃, a₄, a₅, t) at l)) ∙ bill-is i))
       (λ a₆.
-      by-test (eqb group 203) (λ t. rw (a₁, a₂, a₃, a₄, a₅, a₆, t) (ap inputBytes (table-at 16 (lineOf c (a .journal)) i _ (rw (a₁, a₂, a₃, a₄, a₅, a₆, t) at l))))
+      by-test (eqb group 203) (λ t. rw (a₁, a₂, a₃, a₄, a₅, a₆, t) (ap inputBytes (table-at 16 (lineIn c (a .journal)) i _ (rw (a₁, a₂, a₃, a₄, a₅, a₆, t) at l))))
       (λ a₇.
       by-test (eqb group 204) (λ t. rw (a₁, a₂, a₃, a₄, a₅, a₆, a₇, t) (ap fleetBytes fleet-is))
       (λ a₈.

@@ -6,8 +6,9 @@ use Prim.Native.Nat.{ℕ, zero, suc, _+_, _-_, _*_, _/_, _<_, _≤_}
 use native.Mathlib.Nat.{add-mul, mul-add, mul-assoc, mul-comm, mul-one, one-mul, zero-mul, mul-zero, mul-pos, mul-le-mul-left, mul-le-mul-right, mul-div-cancel-left, eq-or-lt-of-le, le-of-suc-le-suc}
 use native.Mathlib.Omega.{arith}
 use Rattle.laws.specs.If.{if_then_else_}
-use Rattle.laws.specs.Tests.{by-test}
-use Rattle.laws.specs.Total.{total, total-cong, total-zero, total-plus}
+use Rattle.laws.proofs.Tests.{by-test}
+use Rattle.laws.specs.Total.{total}
+use Rattle.laws.proofs.Total.{total-cong, total-zero, total-plus}
 use Rattle.laws.specs.Masks.{bitAt}
 use Rattle.counting.specs.Bills.{partOf, namedPart, sumOf}
 use Rattle.demands.specs.Energy.{productOf}

@@ -2,9 +2,13 @@
 use mathlib.Core.List.{List, [], _∷_, _++_, map}
 use Rattle.laws.specs.Each.{Each}
 use Rattle.calendar.specs.Cases as calendar
+use Rattle.calendar.proofs.Cases as calendar-holds
 use Rattle.tariff.specs.Cases as tariff
+use Rattle.tariff.proofs.Cases as tariff-holds
 use Rattle.recorder.specs.Cases as recorder
+use Rattle.recorder.proofs.Cases as recorder-holds
 use Rattle.registers.specs.Cases as registers
+use Rattle.registers.proofs.Cases as registers-holds
 use Rattle.demands.specs.Table.{Case, moment, in-time, booked, aged, Claim, TableHolds}
 
 -- two lists of cases that hold
@@ -19,7 +23,7 @@ lift f (x ∷ xs) h = (h .0, lift f xs (h .1))
 
 pub table-holds : TableHolds
 table-holds =
-    both Claim (map moment calendar.table) (map booked recorder.cases ++ (map in-time tariff.table ++ map aged registers.cases)) (lift moment calendar.table calendar.table-holds)
-    (both Claim (map booked recorder.cases) (map in-time tariff.table ++ map aged registers.cases) (lift booked recorder.cases recorder.cases-hold)
-    (both Claim (map in-time tariff.table) (map aged registers.cases) (lift in-time tariff.table tariff.table-holds)
-    (lift aged registers.cases registers.cases-hold)))
+    both Claim (map moment calendar.cases) (map booked recorder.cases ++ (map in-time tariff.cases ++ map aged registers.cases)) (lift moment calendar.cases calendar-holds.cases-hold)
+    (both Claim (map booked recorder.cases) (map in-time tariff.cases ++ map aged registers.cases) (lift booked recorder.cases recorder-holds.cases-hold)
+    (both Claim (map in-time tariff.cases) (map aged registers.cases) (lift in-time tariff.cases tariff-holds.cases-hold)
+    (lift aged registers.cases registers-holds.cases-hold)))

@@ -1,5 +1,5 @@
 -- One impulse more: what whole denominators leave of the numerators, and the units that leave them.
-use mathlib.Core.Path.{_≡_, refl, sym, ap, _∙_}
+use mathlib.Core.Path.{_≡_, sym}
 use mathlib.Core.Bool.{Bool, true, false}
 use Prim.Native.Nat.{ℕ, _+_, _-_, _*_, _/_, _%_, _<_, _≤_}
 use native.Mathlib.Nat.{add-mul, one-mul, add-zero, div-zero, div-add-mod', mod-add-mod, mul-add-div-right}
@@ -7,7 +7,7 @@ use native.Mathlib.Omega.{arith}
 use lib.Dec.{eqb}
 use borrow.Author.Tests.{eqb-true, eqb-false}
 use Rattle.laws.specs.If.{if_then_else_}
-use Rattle.laws.specs.Tests.{by-test}
+use Rattle.laws.proofs.Tests.{by-test}
 use Rattle.laws.specs.Masks.{bit}
 use Rattle.settings.specs.declared.Input.{Input}
 use Rattle.counting.specs.Units.{unitsOf, remainderOf}

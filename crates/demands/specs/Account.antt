@@ -215,20 +215,20 @@ unfoldable pub overfull : Config → List Entry → Sample → ℕ → Bool
 overfull c journal e j = inUse c j && (ltb 0 (dueTo c j e) && ltb 999_999_999 (amountOf c j journal + dueTo c j e))
 
 -- a sample: 5 where it is the "hundredth sample in the last second", then 6 where it would fill a bill register; 0 is no refusal
-unfoldable pub sampleNumber : Config → Account → ℕ → ℕ
-sampleNumber c a bits =
+unfoldable pub numberOfSample : Config → Account → ℕ → ℕ
+numberOfSample c a bits =
     if eqb (a .time .second) 4_294_967_295 && eqb (a .time .samples) 99 then 5
     else if any 16 (overfull c (a .journal) (nextSample c a bits)) then 6
     else 0
 
 -- a clock set: 9 for a time without a date, which no 32-bit time is
-abbrev pub dateNumber : Answer Moment → ℕ
-dateNumber (given m) = 0
-dateNumber (refused n offset) = n
+abbrev pub numberOfDate : Answer Moment → ℕ
+numberOfDate (given m) = 0
+numberOfDate (refused n offset) = n
 
 -- a reading: "7 NO METER: meter above 31"; "8 NOT FITTED"; "10 READING: STATUS above 7 or SEQ above 31"
-unfoldable pub readingNumber : Config → ℕ → ℕ → ℕ → ℕ
-readingNumber c meter status seq =
+unfoldable pub numberOfReading : Config → ℕ → ℕ → ℕ → ℕ
+numberOfReading c meter status seq =
     if ltb 31 meter then 7
     else if eqb (getD (c .limits) meter 0) 0 then 8
     else if ltb 7 status || ltb 31 seq then 10
@@ -236,9 +236,9 @@ readingNumber c meter status seq =
 
 -- the number with which a call is answered
 abbrev pub answerOf : Config → Account → Call → ℕ
-answerOf c a (sample bits) = sampleNumber c a bits
-answerOf c a (set seconds) = dateNumber (momentOf seconds)
-answerOf c a (reading meter value status seq) = readingNumber c meter status seq
+answerOf c a (sample bits) = numberOfSample c a bits
+answerOf c a (set seconds) = numberOfDate (momentOf seconds)
+answerOf c a (reading meter value status seq) = numberOfReading c meter status seq
 answerOf c a reset = 0
 
 -- "100 samples make a second. After the hundredth is booked the clock steps; if it is then a multiple of the period's seconds, the period closes .. whole if it began on a multiple, else short"

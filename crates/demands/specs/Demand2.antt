@@ -23,9 +23,9 @@ use Rattle.recorder.specs.declared.Recorder.{Recorder}
 use Rattle.registers.specs.Fleet.{meterAt, fleetOf}
 use Rattle.registers.specs.Laws.{BytesAsTable, GivenFirst}
 use Rattle.registers.specs.Registers.{registerReply}
-use Rattle.demands.specs.Account.{Account, sampleNumber, answerOf, withCall, accountOf}
+use Rattle.demands.specs.Account.{Account, numberOfSample, answerOf, withCall, accountOf}
 use Rattle.demands.specs.Starts.{Accepted, StartIsFresh}
-use Rattle.demands.specs.State.{stateOf}
+use Rattle.demands.specs.State.{stateIn}
 use Rattle.demands.specs.Shown.{isAwake, fleetIn, shown}
 
 -- the recorder after a history
@@ -33,30 +33,30 @@ abbrev pub reached : Config → ℕ → List Call → Recorder
 reached c time calls = afterAll (freshStart c time) calls
 
 -- the number with which a recorder answers a call; a billing reset is never refused
-abbrev pub numberOf : Recorder → Call → ℕ
-numberOf r (sample bits) = sampleReply r bits .number
-numberOf r (set seconds) = setReply r seconds .number
-numberOf r (reading meter value status seq) = readingReply r meter value status seq .number
-numberOf r reset = 0
+abbrev pub replyNumber : Recorder → Call → ℕ
+replyNumber r (sample bits) = sampleReply r bits .number
+replyNumber r (set seconds) = setReply r seconds .number
+replyNumber r (reading meter value status seq) = readingReply r meter value status seq .number
+replyNumber r reset = 0
 
 -- after any history each call is answered with the account's number: so a recorder that refuses what it should take, or takes what it should refuse, is none
 abbrev pub AnswersOfHistory : Type 0
-AnswersOfHistory = (c : Config) (time : ℕ) (calls : List Call) (call : Call) → numberOf (reached c time calls) call ≡ answerOf c (accountOf c time calls) call
+AnswersOfHistory = (c : Config) (time : ℕ) (calls : List Call) (call : Call) → replyNumber (reached c time calls) call ≡ answerOf c (accountOf c time calls) call
 
 -- the recorder is what its history says: the configuration of its start, and the state that the account spells out
 abbrev pub StateOfHistory : Type 0
 StateOfHistory =
-    (c : Config) → Accepted c → (time : ℕ) (calls : List Call) → reached c time calls ≡ record { config = c; state = stateOf c (accountOf c time calls) }
+    (c : Config) → Accepted c → (time : ℕ) (calls : List Call) → reached c time calls ≡ record { config = c; state = stateIn c (accountOf c time calls) }
 
 -- how many samples of a run the account takes
 abbrev pub takenIn : Config → Account → List ℕ → ℕ
 takenIn c a [] = 0
-takenIn c a (bits ∷ more) = if eqb (sampleNumber c a bits) 0 then suc (takenIn c (withCall c a (sample bits)) more) else 0
+takenIn c a (bits ∷ more) = if eqb (numberOfSample c a bits) 0 then suc (takenIn c (withCall c a (sample bits)) more) else 0
 
 -- the number that ends the run: that of its first refused sample, 0 where there is none
 abbrev pub endOf : Config → Account → List ℕ → ℕ
 endOf c a [] = 0
-endOf c a (bits ∷ more) = if eqb (sampleNumber c a bits) 0 then endOf c (withCall c a (sample bits)) more else sampleNumber c a bits
+endOf c a (bits ∷ more) = if eqb (numberOfSample c a bits) 0 then endOf c (withCall c a (sample bits)) more else numberOfSample c a bits
 
 -- the calls with these samples after them, one by one
 abbrev pub withSamples : List ℕ → List Call → List Call

@@ -5,20 +5,19 @@ use mathlib.Core.Bool.{Bool}
 use mathlib.Core.List.{List, [], _∷_, _++_, reverse}
 use Prim.Native.Nat.{ℕ, zero, suc, _<_}
 use lib.Dec.{ltb}
-use lib.IntN.{ℤ, pos, negsuc}
+use lib.IntN.{pos, negsuc}
 use lib.ListN.{replicate}
 use Rattle.laws.specs.Each.{Each}
 use Rattle.laws.specs.Tables.{table}
 use Rattle.tariff.specs.declared.Program.{Program}
 use Rattle.settings.specs.declared.Config.{Config}
-use Rattle.sampling.specs.declared.State.{State}
 use Rattle.recorder.specs.History.{Call, sample, set, reading, reset}
-use Rattle.demands.specs.Account.{Entry, took, ended, cleared, heard, Account, whole, since, booksAt, always, impulsesOf, feeding, lastReset, bookedIn, unitsIn, inPeriod, answerOf, accountOf, journalOf}
+use Rattle.demands.specs.Account.{Entry, took, ended, cleared, heard, Account, whole, since, booksAt, always, impulsesOf, feeding, bookedIn, accountOf, journalOf}
 use Rattle.demands.specs.Energy.{stretchesOf, inputsIn, scaleOf, energyOf, wholeUnitsOf}
 use Rattle.demands.specs.Starts.{Accepted}
-use Rattle.demands.specs.State.{stateOf}
+use Rattle.demands.specs.State.{stateIn}
 use Rattle.demands.specs.Shown.{fleetIn}
-use Rattle.demands.specs.Demand2.{reached, numberOf}
+use Rattle.demands.specs.Demand2.{reached, replyNumber}
 use Rattle.demands.specs.Demand3.{openOf, closedOf, OnSum, ExactlyOne}
 
 -- tariff rule 0 is the day, 06:00 to 22:00, rule 1 the night, every day; rule 2 has an unused season and is never in force
@@ -117,7 +116,7 @@ pub record Numbers : Type 0 where
   -- the configuration is one that the image check accepts, the account is that above, and the reading of meter 4 is answered with 8
   pub accepted : Accepted twoMakers
   pub happened : accountOf twoMakers start calls ≡ account
-  pub not-fitted : numberOf (reached twoMakers start calls) (reading 4 (pos 5) 0 0) ≡ 8
+  pub not-fitted : replyNumber (reached twoMakers start calls) (reading 4 (pos 5) 0 0) ≡ 8
   -- open amounts, and all closed ones
   pub opened : eight (λ j. openOf twoMakers start j calls) ≡ 0 ∷ 2 ∷ 2 ∷ 2 ∷ 3 ∷ 5 ∷ 0 ∷ 0 ∷ []
   pub closed : eight (λ j. closedOf twoMakers start j calls) ≡ 1 ∷ 1 ∷ 2 ∷ 5 ∷ 5 ∷ 10 ∷ 0 ∷ 0 ∷ []
@@ -133,7 +132,7 @@ pub record Numbers : Type 0 where
   pub once : Each (ExactlyOne twoMakers firstTwo) (since twoMakers journal)
   pub all-units : bookedIn always 3 (since twoMakers journal) ≡ 2
   -- the last closed period was closed by the clock set at 07:00 of the second day, short; input 2 had 2 units, sum 1 the same, and function 0 is 0 less 2
-  pub state : stateOf twoMakers account .closed ≡ record { state = 1; stamp = 111_600; values = pos 2 ∷ pos 2 ∷ negsuc 1 ∷ replicate 13 (pos 0) }
+  pub state : stateIn twoMakers account .closed ≡ record { state = 1; stamp = 111_600; values = pos 2 ∷ pos 2 ∷ negsuc 1 ∷ replicate 13 (pos 0) }
   -- meter 0 is awake, 1 stale, 2 invalid, 3 never; the others are not fitted
   pub fleet : fleetIn twoMakers account ≡ record { fitted = 4; awake = 1; stale = 1; invalid = 1; never = 1; sum = pos 21 }
 
@@ -189,7 +188,7 @@ nearlyFull = sample 65_535 ∷ pulses 6_249
 pub record Filled : Type 0 where
   pub accepted : Accepted fullMaker
   pub opened : openOf fullMaker 0 0 nearlyFull ≡ 999_840_000
-  pub refused : numberOf (reached fullMaker 0 nearlyFull) (sample 0) ≡ 6
+  pub refused : replyNumber (reached fullMaker 0 nearlyFull) (sample 0) ≡ 6
   pub impulses : (i : ℕ) → i < 16 → impulsesOf always i (whole fullMaker (journalOf fullMaker 0 (sample 0 ∷ nearlyFull))) ≡ 6_249
   pub closed : closedOf fullMaker 0 0 (sample 0 ∷ reset ∷ sample 0 ∷ nearlyFull) ≡ 999_840_000
   pub anew : openOf fullMaker 0 0 (sample 0 ∷ reset ∷ sample 0 ∷ nearlyFull) ≡ 160_000

@@ -3,7 +3,7 @@ use mathlib.Core.Bool.{Bool, not, _&&_, cond}
 use mathlib.Core.List.{List, _++_}
 use Prim.Native.Nat.{ℕ, _+_, _*_, _/_, _%_}
 use lib.Dec.{ltb, eqb}
-use lib.IntN.{ℤ, pos}
+use lib.IntN.{pos}
 use lib.ListN.{getD, replicate}
 use mir.Syntax.{w32, w64}
 use mir.Val.{ofZ}
@@ -22,7 +22,7 @@ use Rattle.sampling.specs.declared.Period.{Period}
 use Rattle.registers.specs.Contents.{weeklyOn}
 use Rattle.registers.specs.declared.fleet.Fleet.{Fleet}
 use Rattle.demands.specs.Account.{Account, Reading, lastReading, periodsOf}
-use Rattle.demands.specs.State.{lineOf, billOf, lastPeriod}
+use Rattle.demands.specs.State.{lineIn, billIn, lastPeriod}
 
 -- "A fitted meter is never before its first reading"; a limit of 0 is not fitted
 abbrev pub isNever : ℕ → Bool → Bool
@@ -100,7 +100,7 @@ shown c a group i =
     else if eqb group 90 then bytesOf 1 (bit (dailyActive (c .program) i (now / 60 % 1440)))
     else if eqb group 91 then bytesOf 1 (bit (weeklyOn (c .program) i (momentOf now)))
     else if eqb group 201 then slotShown (lastPeriod c (periodsOf c (a .journal))) i
-    else if eqb group 202 then billShown (billOf c (a .journal) i)
-    else if eqb group 203 then inputShown (lineOf c (a .journal) i)
+    else if eqb group 202 then billShown (billIn c (a .journal) i)
+    else if eqb group 203 then inputShown (lineIn c (a .journal) i)
     else if eqb group 204 then fleetShown (fleetIn c a)
     else bytesOf 4 now ++ bytesOf 1 (a .time .samples)

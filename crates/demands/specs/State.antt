@@ -1,5 +1,5 @@
 -- The recorder's state as the account of a history spells it out, field by field, in the words of document 01.
-use mathlib.Core.Bool.{Bool, false}
+use mathlib.Core.Bool.{false}
 use mathlib.Core.List.{List, [], _∷_}
 use Prim.Native.Nat.{ℕ, _+_, _*_, _%_, min}
 use lib.Dec.{eqb}
@@ -21,8 +21,8 @@ use Rattle.sampling.specs.declared.State.{State}
 use Rattle.demands.specs.Account.{Entry, Account, Ended, Reading, runOf, always, impulsesOf, rejectedIn, unitsIn, whole, inPeriod, inUse, amountOf, lastReset, periodsOf, lastReading}
 
 -- input i: its run, "counted to 256 and held there"; its rejected impulses, "count held at 65,535"; what whole denominators leave of the numerators of its impulses; its units of the running period
-unfoldable pub lineOf : Config → List Entry → ℕ → Line
-lineOf c journal i =
+unfoldable pub lineIn : Config → List Entry → ℕ → Line
+lineIn c journal i =
     record {
       run = runOf c i journal;
       rejected = min 65_535 (rejectedIn i (whole c journal));
@@ -31,8 +31,8 @@ lineOf c journal i =
     }
 
 -- bill register j: its open amount, and what the last reset noted; one that is not in use has zeros
-unfoldable pub billOf : Config → List Entry → ℕ → Bill
-billOf c journal j =
+unfoldable pub billIn : Config → List Entry → ℕ → Bill
+billIn c journal j =
     if inUse c j
     then record {
       amount = amountOf c j journal;
@@ -43,8 +43,8 @@ billOf c journal j =
     else record { amount = 0; closed = 0; stamp = 0; reset = false }
 
 -- a meter: its last accepted reading
-abbrev pub meterOf : Reading → Meter
-meterOf m = record { read = m .read; stamp = m .stamp; value = m .value; status = m .status; seq = m .seq }
+abbrev pub meterIn : Reading → Meter
+meterIn m = record { read = m .read; stamp = m .stamp; value = m .value; status = m .status; seq = m .seq }
 
 -- level 1 of sum k, of a period's units
 abbrev pub level1 : Config → List ℕ → ℕ → ℕ
@@ -64,14 +64,14 @@ lastPeriod c [] = record { state = 0; stamp = 0; values = replicate 16 (pos 0) }
 lastPeriod c (p ∷ earlier) = record { state = p .state; stamp = p .stamp; values = table 16 (λ i. valueOf c (p .units) (getD (c .slots) i noSlot)) }
 
 -- the whole state
-unfoldable pub stateOf : Config → Account → State
-stateOf c a =
+unfoldable pub stateIn : Config → Account → State
+stateIn c a =
     record {
       clock = a .time .second;
       samples = a .time .samples;
       first = a .time .first;
-      lines = table 16 (lineOf c (a .journal));
-      bills = table 16 (billOf c (a .journal));
-      meters = table 32 (λ i. meterOf (lastReading (a .journal) i));
+      lines = table 16 (lineIn c (a .journal));
+      bills = table 16 (billIn c (a .journal));
+      meters = table 32 (λ i. meterIn (lastReading (a .journal) i));
       closed = lastPeriod c (periodsOf c (a .journal));
     }

@@ -21,9 +21,9 @@ Claim (booked case) = recorder.Claim case
 Claim (aged case) = registers.Claim case
 
 -- lines 1 to 4; 5 to 7; 8 and 9; 10
-abbrev pub table : List Case
-table = map moment calendar.table ++ (map booked recorder.cases ++ (map in-time tariff.table ++ map aged registers.cases))
+abbrev pub tenLines : List Case
+tenLines = map moment calendar.cases ++ (map booked recorder.cases ++ (map in-time tariff.cases ++ map aged registers.cases))
 
 -- all lines hold
 abbrev pub TableHolds : Type 0
-TableHolds = Each Claim table
+TableHolds = Each Claim tenLines

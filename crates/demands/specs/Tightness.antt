@@ -30,15 +30,19 @@ use Rattle.image.proofs.tester_line.Reads as image-tester-line
 use Rattle.counting.proofs.filter.advance.Reads as counting-advance
 use Rattle.counting.proofs.filter.kind_mask.Reads as counting-kind-mask
 use Rattle.counting.proofs.filter.running_lines.Reads as counting-running-lines
-use Rattle.counting.proofs.units.settle.Reads as counting-settle
-use Rattle.counting.proofs.units.some_units.Reads as counting-some-units
+use Rattle.counting.proofs.units.settle_line.Reads as counting-settle-line
+use Rattle.counting.proofs.units.settle_units.Reads as counting-settle-units
 use Rattle.counting.proofs.bills.sums_units.Reads as counting-sums-units
 use Rattle.counting.proofs.bills.fed_registers.Reads as counting-fed-registers
-use Rattle.counting.proofs.bills.book_amounts.Reads as counting-book-amounts
+use Rattle.counting.proofs.bills.register_units.Reads as counting-register-units
+use Rattle.counting.proofs.bills.some_full.Reads as counting-some-full
 use Rattle.counting.proofs.bills.amounts_of.Reads as counting-amounts-of
 use Rattle.counting.proofs.bills.put_amounts.Reads as counting-put-amounts
 use Rattle.counting.proofs.levels.level9.Reads as counting-level9
 use Rattle.sampling.proofs.samples.take.Reads as sampling-take
+use Rattle.sampling.proofs.samples.run.Reads as sampling-run
+use Rattle.sampling.proofs.samples.one.Reads as sampling-one
+use Rattle.sampling.proofs.clock.close.Reads as sampling-close
 use Rattle.sampling.proofs.clock.cleared.Reads as sampling-cleared
 use Rattle.sampling.proofs.clock.close_period.Reads as sampling-close-period
 use Rattle.recorder.proofs.Recorder.start.Reads as recorder-start
@@ -107,16 +111,20 @@ pub record Tight : Type 1 where
   pub counting-advance : Lent (λ κs e. now (e .0) ∷ []) counting-advance.Post counting-advance.Asked
   pub counting-kind-mask : Alone counting-kind-mask.Post counting-kind-mask.Asked
   pub counting-running-lines : Alone counting-running-lines.Post counting-running-lines.Asked
-  pub counting-settle : Alone counting-settle.Post counting-settle.Asked
-  pub counting-some-units : Alone counting-some-units.Post counting-some-units.Asked
+  pub counting-settle-line : Alone counting-settle-line.Post counting-settle-line.Asked
+  pub counting-settle-units : Alone counting-settle-units.Post counting-settle-units.Asked
   pub counting-sums-units : Alone counting-sums-units.Post counting-sums-units.Asked
   pub counting-fed-registers : Alone counting-fed-registers.Post counting-fed-registers.Asked
-  pub counting-book-amounts : Alone counting-book-amounts.Post counting-book-amounts.Asked
+  pub counting-register-units : Alone counting-register-units.Post counting-register-units.Asked
+  pub counting-some-full : Alone counting-some-full.Post counting-some-full.Asked
   pub counting-amounts-of : Alone counting-amounts-of.Post counting-amounts-of.Asked
   pub counting-put-amounts : Alone counting-put-amounts.Post counting-put-amounts.Asked
   pub counting-level9 : Alone counting-level9.Post counting-level9.Asked
   -- crate sampling
   pub sampling-take : Alone sampling-take.Post sampling-take.Asked
+  pub sampling-run : Alone sampling-run.Post sampling-run.Asked
+  pub sampling-one : Alone sampling-one.Post sampling-one.Asked
+  pub sampling-close : Alone sampling-close.Post sampling-close.Asked
   pub sampling-cleared : Alone sampling-cleared.Post sampling-cleared.Asked
   pub sampling-close-period : Alone sampling-close-period.Post sampling-close-period.Asked
   -- crate recorder

@@ -4,8 +4,8 @@ use mathlib.Core.Bool.{Bool, not}
 use Prim.Native.Nat.{ℕ, _+_, _%_, _<_}
 use native.Mathlib.Omega.{arith}
 use lib.Dec.{ltb, eqb}
-use Rattle.laws.specs.If.{if-cases}
-use Rattle.laws.specs.Answers.{Answer, given, refused}
+use Rattle.laws.proofs.If.{if-cases}
+use Rattle.laws.specs.Answers.{Answer, given}
 use Rattle.recorder.specs.Meters.{classOf, ageOf}
 use Rattle.calendar.proofs.Moments.{found-is-moment}
 use Rattle.image.proofs.Lines.{refusal-in-line}

@@ -9,10 +9,11 @@ use borrow.Author.Tests.{eq-eqb, ne-eqb, eqb-true, lt-ltb, le-ltb}
 use lib.Dec.{eqb, ltb}
 use lib.ListN.{length, drop}
 use lib.Seq.{sets, sets-eq}
-use Rattle.laws.specs.Tests.{by-test}
+use Rattle.laws.proofs.Tests.{by-test}
 use Rattle.laws.specs.Answers.{Answer, given, refused}
 use Rattle.laws.specs.Bytes.{le}
-use Rattle.laws.specs.Masks.{maskOf, bitAt, bit-at}
+use Rattle.laws.specs.Masks.{maskOf, bitAt}
+use Rattle.laws.proofs.Masks.{bit-at}
 use Rattle.image.specs.Image.{encode, decode, Counted}
 use Rattle.settings.specs.Rules.{fittedIn}
 use Rattle.settings.specs.Check.{verdictAt, orElse, checked}

@@ -8,8 +8,9 @@ use lib.Seq.{getD-drop, drop-drop, take-add}
 use mir.Syntax.{w8}
 use mir.Val.{SFits}
 use mir.Facts.{toZ-ofZ, ofZ-toZ}
-use Rattle.laws.specs.Bytes.{Bytes, bytesOf, le, length-bytesOf, le-bytesOf, bytesOf-le, bytesOf-at, take-firsts}
-use Rattle.laws.specs.Codec.{Codec, part-after}
+use Rattle.laws.specs.Bytes.{Bytes, bytesOf, le}
+use Rattle.laws.proofs.Bytes.{length-bytesOf, le-bytesOf, bytesOf-le, bytesOf-at, take-firsts}
+use Rattle.laws.proofs.Codec.{Codec, part-after}
 use Rattle.image.specs.Entries.{inputBytes, inputOf, coefficientBytes, coefficientOf, slotBytes, slotOf, windowBytes, windowOf, dateOf, seasonBytes, seasonOf, holidayBytes, holidayOf, ruleBytes, ruleOf, registerBytes, registerOf}
 use Rattle.image.specs.Image.{TypedInput, TypedWindow, TypedHoliday}
 use Rattle.settings.specs.declared.Input.{Input}

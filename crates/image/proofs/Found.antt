@@ -7,9 +7,10 @@ use native.Mathlib.Nat.{le-refl, lt-of-lt-of-le}
 use native.Mathlib.Omega.{arith}
 use borrow.Author.Tests.{lt-ltb, le-ltb, ltb-true, ltb-false, not-true, not-false}
 use lib.Dec.{ltb}
-use Rattle.laws.specs.Tests.{by-test}
+use Rattle.laws.proofs.Tests.{by-test}
 use Rattle.laws.specs.Each.{Each}
-use Rattle.laws.specs.First.{first, first-is, first-none, first-at, first-before}
+use Rattle.laws.specs.First.{first}
+use Rattle.laws.proofs.First.{first-is, first-none, first-at, first-before}
 use Rattle.laws.specs.Broken.{firstBroken}
 use Rattle.laws.specs.Answers.{Answer, given, refused}
 use Rattle.settings.specs.Check.{Section, sections, verdictAt, orElse, firstBad, checked, Holds, FirstBadAt, here, later}

@@ -7,7 +7,7 @@ use native.Mathlib.Omega.{arith}
 use borrow.Author.Tests.{ltb-true}
 use lib.Dec.{eqb, ltb, lit≤}
 use lib.ListN.{length, drop, length-append}
-use Rattle.laws.specs.Tests.{by-test}
+use Rattle.laws.proofs.Tests.{by-test}
 use Rattle.laws.specs.Each.{Each}
 use Rattle.laws.specs.Broken.{firstBroken}
 use Rattle.laws.specs.Answers.{Answer, given, refused}

@@ -4,9 +4,10 @@ use mathlib.Core.List.{List, [], _∷_, _++_, append-assoc}
 use Prim.Native.Nat.{ℕ, _+_}
 use lib.ListN.{length, set, length-append}
 use lib.Seq.{sets}
-use Rattle.laws.specs.Bytes.{bytesOf, length-bytesOf}
-use Rattle.laws.specs.Runs.{joined, sets-then}
-use Rattle.laws.specs.Codec.{section-wide, number}
+use Rattle.laws.specs.Bytes.{bytesOf}
+use Rattle.laws.proofs.Bytes.{length-bytesOf}
+use Rattle.laws.proofs.Runs.{joined, sets-then}
+use Rattle.laws.proofs.Codec.{section-wide, number}
 use Rattle.tariff.specs.declared.Window.{Window}
 use Rattle.tariff.specs.declared.Program.{Program}
 use Rattle.image.specs.Entries.{inputBytes, coefficientBytes, slotBytes, windowBytes, seasonBytes, holidayBytes, ruleBytes, registerBytes}

@@ -8,7 +8,7 @@ use mir.Syntax.{w8}
 use mir.Val.{SFits}
 use Rattle.laws.specs.Each.{Each}
 use Rattle.laws.specs.Bytes.{bytesOf, le}
-use Rattle.laws.specs.Runs.{joined, entries}
+use Rattle.laws.proofs.Runs.{joined, entries}
 use Rattle.tariff.specs.declared.Window.{Window}
 use Rattle.tariff.specs.declared.Holiday.{Holiday}
 use Rattle.tariff.specs.declared.Program.{Program}

@@ -14,7 +14,7 @@ ghost use mathlib.Core.Path.{_≡_};
 ghost use Prim.Native.Nat.{_+_, _≤_};
 ghost use lib.ListN.{length, drop};
 ghost use Rattle.laws.specs.Bytes.{le};
-ghost use Rattle.laws.specs.Runs.{entries};
+ghost use Rattle.laws.proofs.Runs.{entries};
 ghost use Rattle.image.specs.Entries.{inputOf, coefficientOf, slotOf, windowOf, dateOf, seasonOf, holidayOf, ruleOf, registerOf};
 ghost use Rattle.image.specs.Image.{programIn, decode};
 

@@ -14,7 +14,7 @@ ghost use Prim.Native.Nat.{_+_, _≤_};
 ghost use lib.ListN.{length};
 ghost use lib.Seq.{sets};
 ghost use Rattle.laws.specs.Bytes.{bytesOf};
-ghost use Rattle.laws.specs.Runs.{joined};
+ghost use Rattle.laws.proofs.Runs.{joined};
 ghost use Rattle.image.specs.Entries.{inputBytes, coefficientBytes, slotBytes, windowBytes, seasonBytes, holidayBytes, ruleBytes, registerBytes};
 ghost use Rattle.image.specs.Image.{headBytes, programBytes, encode};
 

@@ -1,7 +1,7 @@
 -- What it is for a contract that no second result fits it. A contract's claim, `Reads.Post` of a function, is made of lifetimes, arguments, the
 -- result, and the parameters at exit.
 use mathlib.Core.List.{List}
-use mathlib.Core.Path.{_≡_, sym, ap, _∙_}
+use mathlib.Core.Path.{_≡_}
 use Prim.Native.Nat.{ℕ}
 
 -- for all arguments, two results that fit what the function ensures are the same
@@ -14,7 +14,3 @@ abbrev pub OneExit {ℓ} : {L : Type ℓ} {Args Result Exit : L → Type 0} → 
     → ((κs : L) → Args κs → Result κs → Exit κs → Type 0) → Type ℓ
 OneExit {L = L} {Args} {Result} {Exit} seen ensured =
     (κs : L) (args : Args κs) (x y : Result κs) (e f : Exit κs) → ensured κs args x e → ensured κs args y f → seen κs e ≡ seen κs f
-
--- a saying from which the answer can be told back tells all answers apart
-pub told-apart : {A B : Type 0} (said : A → B) (back : B → A) → ((x : A) → back (said x) ≡ x) → (x y : A) → said x ≡ said y → x ≡ y
-told-apart said back told x y e = sym (told x) ∙ (ap back e ∙ told y)

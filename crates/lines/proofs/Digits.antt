@@ -10,7 +10,7 @@ use borrow.Author.Tests.{lt-leb, le-leb}
 use lib.Dec.{leb, eqb}
 use lib.ListN.{length, getD, drop, drop-of-length-le}
 use lib.Seq.{drop-cons}
-use Rattle.laws.specs.Tests.{by-test}
+use Rattle.laws.proofs.Tests.{by-test}
 use Rattle.lines.specs.Numbers.{isDigit, digits, valueFrom, isNumber, numberOf, noNumber}
 
 -- digits after n, and the number that they make with it is at most `most`

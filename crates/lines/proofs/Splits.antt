@@ -9,7 +9,7 @@ use native.Mathlib.Omega.{arith}
 use lib.Dec.{eqb}
 use lib.ListN.{length, getD, take, drop, drop-of-length-le}
 use lib.Seq.{drop-cons, drop-drop}
-use Rattle.laws.specs.Tests.{by-test}
+use Rattle.laws.proofs.Tests.{by-test}
 use Rattle.lines.specs.Words.{inFront, words, word, blankAt, same}
 
 -- the place of the first blank: a letter that is none, a blank, the end

@@ -10,12 +10,14 @@ use lib.Dec.{ltb, leb, eqb}
 use lib.IntN.{ℤ}
 use lib.ListN.{getD, getD-replicate}
 use borrow.Author.Tests.{ltb-true, ltb-false, leb-true, leb-false, eqb-true, eqb-false, ne-eqb, le-ltb}
-use Rattle.laws.specs.If.{if_then_else_, if-cases}
-use Rattle.laws.specs.Tests.{by-test, and-left, and-right, or-right}
-use Rattle.laws.specs.Keys.{key-holds}
+use Rattle.laws.specs.If.{if_then_else_}
+use Rattle.laws.proofs.If.{if-cases}
+use Rattle.laws.proofs.Tests.{by-test, and-left, and-right, or-right}
+use Rattle.laws.proofs.Keys.{key-holds}
 use Rattle.laws.specs.Answers.{Answer, given, refused}
 use Rattle.laws.specs.Masks.{bitAt}
-use Rattle.laws.specs.Tables.{table, table-at}
+use Rattle.laws.specs.Tables.{table}
+use Rattle.laws.proofs.Tables.{table-at}
 use Rattle.calendar.specs.Moments.{momentOf}
 use Rattle.calendar.specs.declared.Moment.{Moment}
 use Rattle.settings.specs.Rules.{periods, periodGood, inputGood, runsGood, ratioGood, sixZeros}

@@ -4,3 +4,4 @@ pub mod Starts
 pub mod Unique
 pub mod Sound
 pub mod Bounded
+pub mod Cases

@@ -9,12 +9,14 @@ use lib.Dec.{ltb, leb, eqb}
 use lib.IntN.{ℤ}
 use lib.ListN.{length, getD, length-set, length-replicate, getD-replicate}
 use borrow.Author.Tests.{ltb-true, ltb-false, leb-true, leb-false, eqb-true, ne-eqb}
-use Rattle.laws.specs.If.{if_then_else_, if-cases}
-use Rattle.laws.specs.Tests.{by-test}
+use Rattle.laws.specs.If.{if_then_else_}
+use Rattle.laws.proofs.If.{if-cases}
+use Rattle.laws.proofs.Tests.{by-test}
 use Rattle.laws.specs.Answers.{Answer, given, refused}
-use Rattle.laws.specs.Any.{any-not}
+use Rattle.laws.proofs.Any.{any-not}
 use Rattle.laws.specs.Masks.{bitAt}
-use Rattle.laws.specs.Tables.{table, table-at, length-table}
+use Rattle.laws.specs.Tables.{table}
+use Rattle.laws.proofs.Tables.{table-at, length-table}
 use Rattle.calendar.specs.Moments.{momentOf}
 use Rattle.calendar.specs.declared.Moment.{Moment}
 use Rattle.tariff.specs.Rules.{forceMapAt}

@@ -4,7 +4,8 @@ use Prim.Native.Nat.{ℕ}
 use lib.Dec.{eqb}
 use Rattle.laws.specs.Answers.{Answer, given, refused}
 use Rattle.laws.specs.If.{if_then_else_}
-use Rattle.laws.specs.Unique.{OneResult, told-apart}
+use Rattle.laws.specs.Unique.{OneResult}
+use Rattle.laws.proofs.Unique.{told-apart}
 use Rattle.sampling.proofs.Unique.{sample-apart}
 use Rattle.recorder.specs.Meters.{ageNumber, ageSaid}
 use Rattle.recorder.specs.Calls.{StartAnswered, startNumber, setNumber, readingNumber, Answered, RunAnswered}

@@ -1,31 +1,15 @@
 -- Lines 5, 6 and 7 of document 01's table: runs, units and bills of input 0, as samples of a fresh recorder make them.
-use mathlib.Core.Path.{_≡_, refl}
-use mathlib.Core.Bool.{true, false}
+use mathlib.Core.Path.{_≡_}
 use mathlib.Core.List.{List, [], _∷_, _++_}
 use Prim.Native.Nat.{ℕ, zero, suc}
 use lib.IntN.{pos}
-use lib.ListN.{getD, replicate, take, drop}
-use Rattle.laws.specs.Each.{Each}
+use lib.ListN.{replicate}
 use Rattle.laws.specs.First.{first}
-use Rattle.laws.specs.Any.{any}
-use Rattle.laws.specs.Total.{total}
-use Rattle.laws.specs.Spans.{span}
-use Rattle.laws.specs.Masks.{maskOf, bitAt}
-use Rattle.laws.specs.Tables.{table}
-use Rattle.calendar.specs.Dates.{monthLength, yearLength}
-use Rattle.calendar.specs.Moments.{yearDay, momentOf}
-use Rattle.tariff.specs.Daily.{windowActive, dailyActive}
-use Rattle.tariff.specs.Weekly.{fitsAt, firstHoliday, columnOn, referenceAt, weeklyActive}
-use Rattle.tariff.specs.Seasons.{inSeason, seasonActive}
-use Rattle.tariff.specs.Rules.{applies, inForce, forceMap, forceOf}
 use Rattle.tariff.specs.declared.Program.{Program}
 use Rattle.settings.specs.declared.Config.{Config}
-use Rattle.counting.specs.Filter.{lineAt, accepted, filtered, filteredAt, acceptedAt, steppedOf}
-use Rattle.counting.specs.Units.{unitsOf, remainderOf, credited, creditIf, unitsIf, creditedAt, unitsAt, creditsOf}
-use Rattle.counting.specs.Bills.{billAt, namedPart, sumOf, sumAt, sumsOf, registerUnits, dueOf, fills, billed, dueAt, fillsAt, billedAt, bookedOf}
-use Rattle.counting.specs.Levels.{level0At, level0, termAt, level2, inputValue, sumValue, functionValue, slotValue, slotValueAt, slotValues}
-use Rattle.sampling.specs.Periods.{multiple, cleared, clearedAt, clearedLines, closedAs, tickOf}
-use Rattle.sampling.specs.Samples.{bookingOf, activeAt, activeLines, countedOf, sampleOf, samplesOf}
+use Rattle.counting.specs.Filter.{lineAt}
+use Rattle.counting.specs.Bills.{billAt}
+use Rattle.sampling.specs.Samples.{samplesOf}
 use Rattle.recorder.specs.Calls.{freshState}
 use Rattle.sampling.specs.declared.State.{State}
 
@@ -94,8 +78,3 @@ cases =
     ∷ impulses-give 4 1 2
     ∷ tariffs-get 0 1 1
     ∷ []
-
--- all of them hold: antt computes both sides of each
-pub cases-hold : Each Claim cases
-unfolding first any total span maskOf bitAt table monthLength yearLength yearDay momentOf windowActive dailyActive fitsAt firstHoliday columnOn referenceAt weeklyActive inSeason seasonActive applies inForce forceMap forceOf accepted filtered filteredAt acceptedAt steppedOf unitsOf remainderOf credited creditIf unitsIf creditedAt unitsAt creditsOf namedPart sumOf sumAt sumsOf registerUnits dueOf fills billed dueAt fillsAt billedAt bookedOf level0At level0 termAt level2 inputValue sumValue functionValue slotValue slotValueAt slotValues multiple cleared clearedAt clearedLines closedAs tickOf bookingOf activeAt activeLines countedOf sampleOf samplesOf freshState
-cases-hold = ((refl, refl), ((refl, refl), ((refl, refl), ((refl, refl), ((refl, refl), ((refl, refl), ((refl, refl), ((refl, refl), ((refl, refl, refl), tt)))))))))

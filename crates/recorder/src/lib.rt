@@ -20,7 +20,8 @@ pub use sampling::Meter;
 pub use sampling::Period;
 pub use sampling::SampleAnswer;
 pub use sampling::State;
-use sampling::samples::take;
+use sampling::samples::one;
+use sampling::samples::run;
 ghost use mathlib.Core.Path.{_≡_};
 ghost use Rattle.calendar.specs.Moments.{momentOf};
 ghost use Rattle.recorder.specs.Calls.{freshState, blankRecorder, startSaid, refusedStart, startDated, startReply, sampledSaid, sampleReply, runSaid, samplesReply, clockSetSaid, setReply, meterReadSaid, readingReply, resetReply};
@@ -164,8 +165,7 @@ impl Recorder {
     {
         let config = self.config;
         let state = self.state;
-        let one = [bits];
-        let taking = take(config, state, &one);
+        let taking = one(config, state, bits);
         let next = taking.state;
         let answer = taking.answer;
         let recorder = Recorder {
@@ -181,7 +181,7 @@ impl Recorder {
     {
         let config = self.config;
         let state = self.state;
-        let taking = take(config, state, bits);
+        let taking = run(config, state, bits);
         let next = taking.state;
         let answer = taking.answer;
         let recorder = Recorder {

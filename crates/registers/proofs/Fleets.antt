@@ -12,14 +12,16 @@ use lib.Signed.{natAbs-le}
 use mir.Syntax.{w32, w64}
 use mir.Val.{SFits}
 use mir.Facts.{toZ-ofZ}
-use Rattle.laws.specs.If.{if-cases}
-use Rattle.laws.specs.Tests.{by-test}
-use Rattle.laws.specs.Keys.{in-range}
+use Rattle.laws.proofs.If.{if-cases}
+use Rattle.laws.proofs.Tests.{by-test}
+use Rattle.laws.proofs.Keys.{in-range}
 use Rattle.laws.specs.Masks.{bit}
-use Rattle.laws.specs.Tables.{table-at}
-use Rattle.laws.specs.Total.{total, total-cong, total-plus}
-use Rattle.laws.specs.Counts.{ones-mask}
-use Rattle.laws.specs.SignedTotal.{totalℤ, abs-add, abs-fits}
+use Rattle.laws.proofs.Tables.{table-at}
+use Rattle.laws.specs.Total.{total}
+use Rattle.laws.proofs.Total.{total-cong, total-plus}
+use Rattle.laws.proofs.Counts.{ones-mask}
+use Rattle.laws.specs.SignedTotal.{totalℤ}
+use Rattle.laws.proofs.SignedTotal.{abs-add, abs-fits}
 use Rattle.recorder.specs.Meters.{classOf}
 use Rattle.sampling.specs.declared.Meter.{Meter}
 use Rattle.registers.specs.Fleet.{meterAt, meterClass, classAt, hasClass, hasAny, awakeValue, awakeSum, classesOf, fleetOf}

@@ -8,8 +8,8 @@ use borrow.Author.Tests.{not-false, leb-true, ne-eqb, eqb-false}
 use lib.Dec.{eqb, leb, ltb}
 use lib.IntN.{ℤ}
 use lib.ListN.{length, getD, drop}
-use Rattle.laws.specs.If.{if-cases}
-use Rattle.laws.specs.Tests.{by-test}
+use Rattle.laws.proofs.If.{if-cases}
+use Rattle.laws.proofs.Tests.{by-test}
 use Rattle.laws.specs.Answers.{Answer, given, refused}
 use Rattle.laws.specs.Bytes.{bytesOf}
 use Rattle.recorder.specs.Meters.{classOf}

@@ -3,3 +3,4 @@ pub mod Groups
 pub mod Laws
 pub mod Fleets
 pub mod Unique
+pub mod Cases

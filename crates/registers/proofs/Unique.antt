@@ -5,7 +5,8 @@ use denote.Ref.{now}
 use lib.Dec.{eqb}
 use Rattle.laws.specs.Answers.{Answer, given, refused}
 use Rattle.laws.specs.If.{if_then_else_}
-use Rattle.laws.specs.Unique.{OneResult, OneExit, told-apart}
+use Rattle.laws.specs.Unique.{OneResult, OneExit}
+use Rattle.laws.proofs.Unique.{told-apart}
 use Rattle.registers.specs.Registers.{registerSaid, Reply}
 use Rattle.registers.specs.declared.RegisterAnswer.{RegisterAnswer}
 use Rattle.registers.specs.declared.RegisterAnswer.the-variants.{Given, NoGroup, NoRegister, NotFitted, NoRoom}

@@ -1,19 +1,15 @@
 -- Line 10 of document 01's table: limit 900, stamp 1000.
-use mathlib.Core.Path.{_≡_, refl}
+use mathlib.Core.Path.{_≡_}
 use mathlib.Core.Bool.{true, false}
 use mathlib.Core.List.{List, [], _∷_}
 use Prim.Native.Nat.{ℕ}
 use lib.IntN.{pos}
 use lib.ListN.{getD, replicate}
-use Rattle.laws.specs.Bytes.{bytesOf}
-use Rattle.laws.specs.Each.{Each}
 use Rattle.image.specs.Image.{blankProgram}
 use Rattle.settings.specs.declared.Config.{Config}
-use Rattle.recorder.specs.Meters.{classOf}
 use Rattle.recorder.specs.declared.Recorder.{Recorder}
-use Rattle.registers.specs.Fleet.{meterClass, classAt}
-use Rattle.registers.specs.Contents.{statusShown, serialBytes, meterBytes}
-use Rattle.registers.specs.Registers.{groups, lookUp, registerReply}
+use Rattle.registers.specs.Fleet.{classAt}
+use Rattle.registers.specs.Registers.{registerReply}
 
 -- meter 0 is fitted with limit 900, and nothing else is
 abbrev oneMeter : Config
@@ -61,8 +57,3 @@ Claim (status-at clock status) = getD (registerReply (heardAt1000 clock) 82 0 (r
 -- line 10: 0 is awake, 1 is stale
 abbrev pub cases : List Case
 cases = class-at 1900 0 ∷ class-at 1901 1 ∷ status-at 1900 6 ∷ status-at 1901 7 ∷ []
-
--- all of them hold: antt computes both sides of each
-pub cases-hold : Each Claim cases
-unfolding bytesOf classOf meterClass classAt statusShown serialBytes meterBytes groups lookUp registerReply
-cases-hold = (refl, (refl, (refl, (refl, tt))))

@@ -2,34 +2,37 @@
 use mathlib.Core.Path.{_≡_, refl, sym, ap, _∙_}
 use mathlib.Core.Bool.{Bool, true, false, not, _&&_}
 use mathlib.Core.List.{List}
-use Prim.Native.Nat.{ℕ, _<_}
-use native.Mathlib.Nat.{add-zero}
+use Prim.Native.Nat.{ℕ, _^_, _<_}
+use native.Mathlib.Nat.{add-zero, lt-of-le-of-lt}
 use native.Mathlib.Omega.{arith}
-use lib.Bits.{bitAnd, bitXor}
-use lib.Dec.{ltb}
-use lib.ListN.{length, getD}
-use borrow.Author.Tests.{ltb-true, ltb-false, lt-ltb}
-use Rattle.laws.specs.If.{if-same}
-use Rattle.laws.specs.Tests.{by-test}
-use Rattle.laws.specs.Any.{any-none, any-not}
-use Rattle.laws.specs.Total.{total-zero}
-use Rattle.laws.specs.Masks.{bitAt, bit-at, bit-zero}
-use Rattle.laws.specs.BitTests.{either, bit-and, bit-xor}
-use Rattle.laws.specs.Tables.{table, table-at, table-cong, table-self, length-table}
+use lib.Bits.{bitAnd, bitXor, and-le-l, xor-lt}
+use lib.Dec.{ltb, eqb}
+use lib.ListN.{length, getD, set}
+use lib.Seq.{getD-set-same, getD-set-other}
+use borrow.Author.Tests.{ltb-true, lt-ltb, eqb-true, eqb-false}
+use Rattle.laws.specs.If.{if_then_else_}
+use Rattle.laws.proofs.If.{if-same}
+use Rattle.laws.proofs.Tests.{by-test}
+use Rattle.laws.proofs.Any.{any-none}
+use Rattle.laws.proofs.Total.{total-zero}
+use Rattle.laws.specs.Masks.{bitAt}
+use Rattle.laws.proofs.Masks.{bit-at, bit-zero, mask-below}
+use Rattle.laws.proofs.BitTests.{either, bit-and, bit-xor}
+use Rattle.laws.specs.Tables.{table}
+use Rattle.laws.proofs.Tables.{table-at, table-cong, table-self, length-table}
 use Rattle.tariff.specs.Rules.{forceMapAt}
 use Rattle.settings.specs.declared.Config.{Config}
 use Rattle.settings.specs.declared.Input.{Input}
 use Rattle.settings.specs.declared.Register.{Register}
-use Rattle.counting.specs.Filter.{lineAt, ends, steppedOf, filteredAt, runningAt, runningLines, advancedLines}
-use Rattle.counting.specs.Units.{creditIf, unitsIf, creditedAt, unitsAt, creditsOf, settledOf, someAt, someUnits}
-use Rattle.counting.specs.Bills.{registerAt, billAt, unitAt, namedPart, sumOf, sumAt, sumsOf, registerUnits, feeds, dueOf, fills, billed, dueAt, fillsAt, billedAt, bookedOf, bookedAmount, fedAt, fullAt, bookedAmountAt, amountsBooked, withAmounts}
+use Rattle.counting.specs.Filter.{lineAt, ends, steppedOf, filteredAt}
+use Rattle.counting.specs.ByMask.{runningAt, runningLines, advancedLines, settledUnitsAt, settledOf, fedRegisters, fedAt, fullAt, someFull, bookedAt, amountsBooked, withAmounts}
+use Rattle.counting.specs.Units.{creditIf, unitsIf, creditedAt, unitsAt, creditsOf}
+use Rattle.counting.specs.Bills.{registerAt, billAt, unitAt, namedPart, sumOf, sumAt, sumsOf, registerUnits, feeds, dueOf, fills, billed, dueAt, fillsAt, billedAt, bookedOf}
 use Rattle.counting.specs.declared.Line.{Line}
-use Rattle.counting.specs.declared.units.Credits.{Credits}
-use Rattle.counting.specs.declared.bills.Amounts.{Amounts}
 use Rattle.counting.specs.declared.Bill.{Bill}
 use Rattle.counting.proofs.Parts.{settled-lines, brought, none-settled, none-brought, full-parts, bills-parts}
 use Rattle.sampling.specs.Samples.{bookingOf}
-use Rattle.sampling.specs.Kept.{InForce, fedAtClock, amountsAt}
+use Rattle.sampling.specs.Kept.{InForce, fedAtClock, restoredAt, restoredLines}
 use Rattle.sampling.specs.declared.booking.Tariffs.{Tariffs}
 
 -- a register that gets nothing is not filled
@@ -88,26 +91,23 @@ no-impulse c clock lines bills mask e size =
     let filtered = table 16 (filteredAt (c .inputs) lines mask) in
     rw (← e, no-credit (c .inputs) filtered (length-table 16 _), nothing-booked (c .registers) bills (forceMapAt (c .program) clock) (c .sums) _ size (no-credit-units (c .inputs) filtered))
 
--- lines that bring nothing
-pub none-some : (units : List ℕ) → someUnits units ≡ false → (i : ℕ) → i < 16 → unitAt units i ≡ 0
-unfolding someUnits someAt
-none-some units e i l = let none = ltb-false 0 (unitAt units i) (any-not 16 (someAt units) e i l) in omega arith
-
 -- no register gets any
 no-fed : (registers : List Register) (fed : ℕ) (sums units : List ℕ) → ((i : ℕ) → i < 16 → unitAt units i ≡ 0) → (j : ℕ) → fedAt registers fed (sumsOf sums units) j ≡ 0
 unfolding fedAt
 no-fed registers fed sums units none j = rw (no-units (registerAt registers j) sums units none) (if-same (bitAt fed j) 0)
 
--- without units the amounts stay as they are
-pub same-amounts : (c : Config) (clock : ℕ) (units amounts : List ℕ) → length amounts ≡ 16 → ((i : ℕ) → i < 16 → unitAt units i ≡ 0)
-    → record { full = false; amounts = amounts } ≡ amountsAt c clock units amounts
-unfolding amountsAt amountsBooked fullAt bookedAmountAt bookedAmount
-same-amounts c clock units amounts size none =
-    let fed = fedAtClock c clock in
-    let sums = sumsOf (c .sums) units in
-    let full = any-none 16 (fullAt (c .registers) amounts fed sums) (λ j l. rw (no-fed (c .registers) fed (c .sums) units none j)) in
-    let same = table-cong 16 (bookedAmountAt (c .registers) amounts fed sums) (unitAt amounts) (λ j l. rw (no-fed (c .registers) fed (c .sums) units none j) (add-zero (unitAt amounts j))) ∙ table-self 16 amounts 0 size in
-    (λ i. record { full = sym full i; amounts = sym same i })
+module _ (registers : List Register) (amounts : List ℕ) (fed : ℕ) (sums units : List ℕ) (none : (i : ℕ) → i < 16 → unitAt units i ≡ 0) where
+  -- so none would be full
+  pub none-full : someFull registers amounts fed (sumsOf sums units) ≡ false
+  unfolding someFull fullAt
+  none-full = any-none 16 (fullAt registers amounts fed (sumsOf sums units)) (λ j l. rw (no-fed registers fed sums units none j))
+
+  -- and the amounts stay as they are
+  pub same-amounts : length amounts ≡ 16 → amountsBooked registers amounts fed (sumsOf sums units) ≡ amounts
+  unfolding amountsBooked bookedAt
+  same-amounts size =
+      rw none-full
+      (table-cong 16 (bookedAt registers amounts fed (sumsOf sums units)) (unitAt amounts) (λ j l. rw (no-fed registers fed sums units none j) (add-zero (unitAt amounts j))) ∙ table-self 16 amounts 0 size)
 
 -- a run that is there and a line that is not active
 not-both : (r a : Bool) → either r (r && a) ≡ (not a && r)
@@ -127,27 +127,29 @@ module _ (c : Config) (clock : ℕ) (lines : List Line) (bills : List Bill) (amo
   ending-bit : (i : ℕ) → i < 16 → bitAt ending i ≡ ends (lineAt lines i) (bitAt mask i)
   ending-bit i l = rw (end-are, bit-xor running (bitAnd running mask) i, bit-and running mask i, running-bit i l) (not-both (ltb 0 (lineAt lines i .run)) (bitAt mask i))
 
-  -- what a sample books, by its parts
-  pub booked-parts : (cr : Credits) (bk : Amounts) → cr ≡ settledOf (c .inputs) lines ending → bk ≡ amountsAt c clock (cr .units) amounts
-      → record { full = bk .full; lines = advancedLines (cr .lines) mask; bills = withAmounts bills (bk .amounts) }
-      ≡ bookingOf c clock lines (withAmounts bills amounts) mask
-  unfolding bookingOf amountsAt
-  booked-parts cr bk settles books =
-      let units = brought (c .inputs) lines mask ending ending-bit in
-      let map = forceMapAt (c .program) clock in
-      let sums = sumsOf (c .sums) (settledOf (c .inputs) lines ending .units) in
-      let full = full-parts (c .registers) bills amounts map sums in
-      let same = bills-parts (c .registers) bills amounts map sums in
-      rw (books, settles, units, settled-lines (c .inputs) lines mask ending ending-bit) (λ i. record { full = sym full i; lines = advancedLines (settledOf (c .inputs) lines ending .lines) mask; bills = sym same i })
+  module _ (units : List ℕ) (fed : ℕ) (brings : units ≡ settledOf (c .inputs) lines ending .units) (in-force : fed ≡ fedAtClock c clock) where
+    -- whether a sample would fill a register
+    pub full-booking : bookingOf c clock lines (withAmounts bills amounts) mask .full ≡ someFull (c .registers) amounts fed (sumsOf (c .sums) units)
+    unfolding bookingOf
+    full-booking =
+        rw (in-force, brings, brought (c .inputs) lines mask ending ending-bit)
+        (full-parts (c .registers) bills amounts (forceMapAt (c .program) clock) (sumsOf (c .sums) (settledOf (c .inputs) lines ending .units)))
 
-  -- where no run ends, the runs of the active lines go on
-  pub unended-parts : ending ≡ 0 → length lines ≡ 16 → length amounts ≡ 16
-      → record { full = false; lines = advancedLines lines mask; bills = withAmounts bills amounts }
-      ≡ bookingOf c clock lines (withAmounts bills amounts) mask
-  unended-parts none size sizes =
-      let cr = settledOf (c .inputs) lines 0 in
-      let bk : record { full = false; amounts = amounts } ≡ amountsAt c clock (cr .units) amounts = same-amounts c clock (cr .units) amounts sizes (none-brought (c .inputs) lines) in
-      rw (none-settled (c .inputs) lines size) at (booked-parts cr (record { full = false; amounts = amounts }) (rw none) bk)
+    -- what one that fills none books
+    pub whole-booking : (left : List Line) → left ≡ settledOf (c .inputs) lines ending .lines → someFull (c .registers) amounts fed (sumsOf (c .sums) units) ≡ false
+        → record { full = false; lines = advancedLines left mask; bills = withAmounts bills (amountsBooked (c .registers) amounts fed (sumsOf (c .sums) units)) }
+        ≡ bookingOf c clock lines (withAmounts bills amounts) mask
+    unfolding bookingOf
+    whole-booking left settles none =
+        let map = forceMapAt (c .program) clock in
+        let sums = sumsOf (c .sums) (settledOf (c .inputs) lines ending .units) in
+        let same-units = brought (c .inputs) lines mask ending ending-bit in
+        let same-lines = settled-lines (c .inputs) lines mask ending ending-bit in
+        let empty : someFull (c .registers) amounts (fedRegisters (c .registers) map) sums ≡ false = rw (in-force, brings) at none in
+        let full = full-parts (c .registers) bills amounts map sums ∙ empty in
+        let same = bills-parts (c .registers) bills amounts map sums empty in
+        rw (in-force, brings, settles, same-units, same-lines)
+        (λ i. record { full = sym full i; lines = advancedLines (settledOf (c .inputs) lines ending .lines) mask; bills = sym same i })
 
   -- what a sample that fills no register leaves before the runs go on: the lines, the amounts and the tariffs
   pub record Left (left : List Line) (open-amounts : List ℕ) (tariffs : Tariffs) : Type 0 where
@@ -160,17 +162,58 @@ module _ (c : Config) (clock : ℕ) (lines : List Line) (bills : List Bill) (amo
   pub unended : (left : List Line) (open-amounts : List ℕ) (tariffs known : Tariffs) → ending ≡ 0 → length lines ≡ 16 → length amounts ≡ 16 → InForce c clock known
       → left ≡ lines → open-amounts ≡ amounts → tariffs ≡ known → Left left open-amounts tariffs
   unended left open-amounts tariffs known none size sizes force l a t =
-      rw (l, a, t) (record { books = unended-parts none size sizes; lines-sixteen = size; amounts-sixteen = sizes; in-force = force })
+      let units = settledOf (c .inputs) lines ending .units in
+      let nothing : (i : ℕ) → i < 16 → unitAt units i ≡ 0 = rw none (none-brought (c .inputs) lines) in
+      let fed = fedAtClock c clock in
+      let empty = none-full (c .registers) amounts fed (c .sums) units nothing in
+      let kept = same-amounts (c .registers) amounts fed (c .sums) units nothing sizes in
+      let settles : lines ≡ settledOf (c .inputs) lines ending .lines = rw none (sym (none-settled (c .inputs) lines size)) in
+      rw (l, a, t) (record { books = rw kept at (whole-booking units fed refl refl lines settles empty); lines-sixteen = size; amounts-sixteen = sizes; in-force = force })
 
   -- where some end, and no register is full
-  pub ended : (left : List Line) (open-amounts : List ℕ) (tariffs known : Tariffs) (cr : Credits) (bk : Amounts) → cr ≡ settledOf (c .inputs) lines ending → bk ≡ amountsAt c clock (cr .units) amounts
-      → bk .full ≡ false → InForce c clock known → left ≡ cr .lines → open-amounts ≡ bk .amounts → tariffs ≡ known → Left left open-amounts tariffs
-  unfolding settledOf amountsAt amountsBooked
-  ended left open-amounts tariffs known cr bk settles books full force l a t =
-      rw (l, a, t)
-      (record {
-        books = rw full at (booked-parts cr bk settles books);
+  pub ended : (left : List Line) (open-amounts units : List ℕ) (tariffs : Tariffs) → left ≡ settledOf (c .inputs) lines ending .lines → units ≡ settledOf (c .inputs) lines ending .units
+      → tariffs .fed ≡ fedAtClock c clock → someFull (c .registers) amounts (tariffs .fed) (sumsOf (c .sums) units) ≡ false
+      → open-amounts ≡ amountsBooked (c .registers) amounts (tariffs .fed) (sumsOf (c .sums) units) → Left left open-amounts tariffs
+  unfolding settledOf amountsBooked
+  ended left open-amounts units tariffs settles brings force none books =
+      record {
+        books = rw (books, none) (rw none at (whole-booking units (tariffs .fed) brings force left settles none));
         lines-sixteen = rw settles (length-table 16 _);
-        amounts-sixteen = rw books (length-table 16 _);
-        in-force = force;
-      })
+        amounts-sixteen = rw (books, none) (length-table 16 _);
+        in-force = λ e. force;
+      }
+
+-- units of nothing, with nothing put in
+pub still-none : (units : List ℕ) (i v : ℕ) → i < length units → v ≡ 0 → ((j : ℕ) → j < 16 → unitAt units j ≡ 0) → (j : ℕ) → j < 16 → unitAt (set units i v) j ≡ 0
+still-none units i v here z none j l =
+    by-test (eqb j i)
+    (λ t. rw (eqb-true j i t, getD-set-same units i v 0 here) z)
+    (λ f. rw (getD-set-other units i j v 0 (eqb-false j i f)) (none j l))
+
+-- lines that do not stand in a mask, and those of it put back, are the lines as they were
+pub put-back : (was lines old : List Line) (f : ℕ → Line) (blank : Line) (mask : ℕ) → length was ≡ 16 → lines ≡ table 16 (λ i. if bitAt mask i then f i else lineAt was i)
+    → old ≡ table 16 (λ i. if bitAt mask i then lineAt was i else blank) → restoredLines lines old mask ≡ was
+unfolding restoredLines restoredAt
+put-back was lines old f blank mask size settles keeps =
+    table-cong 16 _ (lineAt was)
+    (λ i l.
+    rw (settles, keeps, table-at 16 (λ i. if bitAt mask i then f i else lineAt was i) i _ l, table-at 16 (λ i. if bitAt mask i then lineAt was i else blank) i _ l)
+    (by-test (bitAt mask i) (λ t. rw t) (λ t. rw t)))
+    ∙ table-self 16 was _ size
+
+-- only the lines whose runs end bring units
+pub others-none : (inputs : List Input) (lines : List Line) (ending : ℕ) (i : ℕ) → i < 16 → bitAt ending i ≡ false → unitAt (settledOf inputs lines ending .units) i ≡ 0
+unfolding settledOf settledUnitsAt
+others-none inputs lines ending i l e = rw (table-at 16 (settledUnitsAt inputs lines ending) i 0 l, e)
+
+-- the mask of the runs that end has 16 bits
+pub ending-below : (lines : List Line) (running mask : ℕ) → running ≡ runningLines lines → bitXor running (bitAnd running mask) < 2 ^ 16
+unfolding runningLines
+ending-below lines running mask e =
+    let below : running < 2 ^ 16 = rw e (mask-below 16 (runningAt lines)) in
+    xor-lt 16 running (bitAnd running mask) below (lt-of-le-of-lt (and-le-l running mask) below)
+
+-- where a register would be full, the amounts stay as they are
+pub kept-amounts : (registers : List Register) (amounts : List ℕ) (fed : ℕ) (sums : List ℕ) → someFull registers amounts fed sums ≡ true → amountsBooked registers amounts fed sums ≡ amounts
+unfolding amountsBooked
+kept-amounts registers amounts fed sums e = rw e

@@ -11,25 +11,30 @@ use lib.Bits.{bitAnd, bitOr, bitXor, and-le-r, or-lt}
 use lib.ListN.{length, getD, drop}
 use lib.Seq.{drop-cons, drop-length}
 use borrow.Author.Tests.{lt-ltb, ltb-true, ltb-false, lt-leb, le-leb, eqb-true, eqb-false, ne-eqb}
-use Rattle.laws.specs.Tests.{by-test, and-left, and-right}
+use Rattle.laws.proofs.Tests.{by-test, and-left, and-right}
 use Rattle.laws.specs.Answers.{given, refused}
-use Rattle.laws.specs.Masks.{maskOf, bitAt, bit-at, bit-zero, mask-below, mask-cong, mask-ext, mask-zero}
-use Rattle.laws.specs.BitTests.{either, bit-and, bit-or, bit-xor}
-use Rattle.laws.specs.Tables.{table, table-at, table-cong, table-self, length-table}
+use Rattle.laws.specs.Masks.{maskOf, bitAt}
+use Rattle.laws.proofs.Masks.{bit-at, bit-zero, mask-below, mask-cong, mask-ext, mask-zero}
+use Rattle.laws.proofs.BitTests.{either, bit-and, bit-or, bit-xor}
+use Rattle.laws.specs.Tables.{table}
+use Rattle.laws.proofs.Tables.{table-at, table-cong, table-self, length-table}
 use Rattle.settings.specs.declared.Config.{Config}
 use Rattle.settings.specs.declared.Input.{Input}
-use Rattle.counting.specs.Filter.{inputAt, lineAt, active, nextRun, ends, fitting, oneMore, accepted, filtered, filteredAt, acceptedAt, steppedOf, kindAt, kindMask, runningAt, runningLines}
+use Rattle.counting.specs.Filter.{inputAt, lineAt, active, nextRun, ends, fitting, oneMore, accepted, filtered, filteredAt, acceptedAt, steppedOf}
+use Rattle.counting.specs.ByMask.{kindAt, kindMask, runningAt, runningLines, fedRegisters}
 use Rattle.counting.specs.Units.{credited, creditIf, creditedAt, creditsOf}
-use Rattle.counting.specs.Bills.{bookedOf, fedRegisters}
+use Rattle.counting.specs.Bills.{bookedOf}
 use Rattle.tariff.proofs.Laws.{next-same}
-use Rattle.sampling.specs.Periods.{multiple, cleared, clearedAt, clearedLines, closedRest, tickOf}
-use Rattle.sampling.specs.Kept.{InForce, agedTo, roomOf}
+use Rattle.sampling.specs.Periods.{multiple}
+use Rattle.sampling.specs.Kept.{InForce, agedTo}
 use Rattle.sampling.specs.declared.booking.Tariffs.{Tariffs}
-use Rattle.sampling.specs.Samples.{Booking, bookingOf, activeAt, activeLines, putIn, countedOf, sampleOf, Run, samplesOf}
+use Rattle.sampling.specs.Samples.{Booking, bookingOf, activeAt, activeLines, putIn}
+use Rattle.sampling.specs.Stretches.{countedOpen, sampleOpen, closing, stretchOf}
 use Rattle.counting.specs.declared.Line.{Line}
 use Rattle.counting.specs.declared.Bill.{Bill}
 use Rattle.sampling.specs.declared.State.{State}
 use Rattle.sampling.proofs.Books.{no-impulse}
+use Rattle.sampling.proofs.Stretches.{after, goes-on}
 
 -- the test of an active line, by the two masks of kinds
 by-kind : (kind : ℕ) (b : Bool) → (either b (eqb kind 2) && (eqb kind 1 || eqb kind 2)) ≡ active kind b
@@ -146,92 +151,44 @@ runs-after c clock lines bills bits =
     mask-cong 16 (runningAt (table 16 (creditedAt (c .inputs) stepped impulses))) (activeAt (c .inputs) bits)
     (λ i l. rw (table-at 16 (creditedAt (c .inputs) stepped impulses) i _ l) (run-at (c .inputs) lines bits impulses i l))
 
--- the samples of a run that went before, counted in
-abbrev pub later : ℕ → Run → Run
-later k r = record { taken = k + r .taken; number = r .number; state = r .state }
-
-module _ (c : Config) (start s : State) (bits : List ℕ) (k : ℕ) (so-far : samplesOf c start bits ≡ later k (samplesOf c s (drop k bits))) where
-  -- the next sample was taken
-  pub run-on : (next : State) → k < length bits → sampleOf c s (getD bits k 0) ≡ given next
-      → samplesOf c start bits ≡ later (k + 1) (samplesOf c next (drop (k + 1) bits))
-  unfolding samplesOf
-  run-on next h g =
-      let r = samplesOf c next (drop (suc k) bits) in
-      let count : k + suc (r .taken) ≡ suc k + r .taken = omega arith in
-      so-far ∙ rw (add-one k, drop-cons bits k 0 h, g) (λ i. record { taken = count i; number = r .number; state = r .state })
-
-  -- the next sample was refused
-  pub run-refused : (n offset : ℕ) → k < length bits → sampleOf c s (getD bits k 0) ≡ refused n offset
-      → samplesOf c start bits ≡ record { taken = k; number = n; state = s }
-  unfolding samplesOf
-  run-refused n offset h g = so-far ∙ rw (drop-cons bits k 0 h, g, add-zero)
-
-  -- there is no next sample
-  pub run-done : k ≤ length bits → length bits ≤ k → samplesOf c start bits ≡ record { taken = k; number = 0; state = s }
-  unfolding samplesOf
-  run-done l g = let e : k ≡ length bits = le-antisymm l g in so-far ∙ rw (e, drop-length bits, add-zero)
+-- a sample that does not step the clock brings no closing
+pub counts-on : (c : Config) (rest : State) (clock count : ℕ) (lines : List Line) (bills : List Bill) → closing c (putIn rest clock (count + 1) lines bills) ≡ false
+counts-on c rest clock count lines bills = rw (ne-eqb (count + 1) 0 (λ z. omega arith))
 
 module _ (c : Config) (rest : State) (clock count : ℕ) (lines : List Line) (bills : List Bill) (bits : ℕ) where
   -- a sample with no line active and no run to end only counts
   pub sample-idle : count < 99 → 0 ≡ activeLines (c .inputs) bits → runningLines lines ≡ 0 → length lines ≡ 16 → length bills ≡ 16
-      → sampleOf c (putIn rest clock count lines bills) bits ≡ given (putIn rest clock (count + 1) lines bills)
-  unfolding sampleOf countedOf
+      → sampleOpen c (putIn rest clock count lines bills) bits ≡ given (putIn rest clock (count + 1) lines bills)
+  unfolding sampleOpen countedOpen
   sample-idle h a r size sizes = rw (lt-leb 99 count h, and-false, ← a, idle-booking c clock lines bills r size sizes)
 
   -- the hundredth sample in the last second is refused
-  pub sample-end : (eqb clock 4_294_967_295 && leb 99 count) ≡ true → sampleOf c (putIn rest clock count lines bills) bits ≡ refused 5 0
-  unfolding sampleOf
+  pub sample-end : (eqb clock 4_294_967_295 && leb 99 count) ≡ true → sampleOpen c (putIn rest clock count lines bills) bits ≡ refused 5 0
+  unfolding sampleOpen
   sample-end e = rw e
 
-  module _ (b : Booking) (mask : ℕ) (on : mask ≡ activeLines (c .inputs) bits) (booked : b ≡ bookingOf c clock lines bills mask) where
-    -- a sample that would fill a register is refused
-    pub sample-full : (eqb clock 4_294_967_295 && leb 99 count) ≡ false → b .full ≡ true
-        → sampleOf c (putIn rest clock count lines bills) bits ≡ refused 6 0
-    unfolding sampleOf
-    sample-full e f = rw (e, ← on, ← booked, f)
+  -- a sample that would fill a register is refused
+  pub sample-full : (mask : ℕ) → mask ≡ activeLines (c .inputs) bits → (eqb clock 4_294_967_295 && leb 99 count) ≡ false → bookingOf c clock lines bills mask .full ≡ true
+      → sampleOpen c (putIn rest clock count lines bills) bits ≡ refused 6 0
+  unfolding sampleOpen
+  sample-full mask on e f = rw (e, ← on, f)
 
+  module _ (b : Booking) (mask : ℕ) (on : mask ≡ activeLines (c .inputs) bits) (booked : b ≡ bookingOf c clock lines bills mask) where
     -- another is booked and counted
     pub sample-counted : count < 99 → b .full ≡ false
-        → sampleOf c (putIn rest clock count lines bills) bits ≡ given (putIn rest clock (count + 1) (b .lines) (b .bills))
-    unfolding sampleOf countedOf
+        → sampleOpen c (putIn rest clock count lines bills) bits ≡ given (putIn rest clock (count + 1) (b .lines) (b .bills))
+    unfolding sampleOpen countedOpen
     sample-counted h f = rw (lt-leb 99 count h, and-false, ← on, ← booked, f)
 
     -- and after the hundredth the clock steps
     pub sample-ticked : (eqb clock 4_294_967_295 && leb 99 count) ≡ false → 99 ≤ count → b .full ≡ false
-        → sampleOf c (putIn rest clock count lines bills) bits ≡ given (tickOf c (putIn rest clock count (b .lines) (b .bills)))
-    unfolding sampleOf countedOf
+        → sampleOpen c (putIn rest clock count lines bills) bits ≡ given (putIn rest (clock + 1) 0 (b .lines) (b .bills))
+    unfolding sampleOpen countedOpen
     sample-ticked e h f = rw (e, ← on, ← booked, f, le-leb 99 count h)
 
     -- the active lines are those with a run after the sample
     pub running-after : mask ≡ runningLines (b .lines)
     running-after = rw (booked, on) (sym (runs-after c clock lines bills bits))
-
-    -- there are 16 lines after it
-    pub lines-after : length (b .lines) ≡ 16
-    unfolding bookingOf creditsOf
-    lines-after = rw booked (length-table 16 _)
-
-    -- and 16 bills
-    pub bills-after : length (b .bills) ≡ 16
-    unfolding bookingOf bookedOf
-    bills-after = rw booked (length-table 16 _)
-
-module _ (c : Config) (rest : State) (clock count : ℕ) (lines : List Line) (bills : List Bill) where
-  -- the step inside a period
-  pub step-on : multiple (c .period) (clock + 1) ≡ false → tickOf c (putIn rest clock count lines bills) ≡ putIn rest (clock + 1) 0 lines bills
-  unfolding tickOf
-  step-on e = rw e
-
-  -- the step that closes a period
-  pub step-closes : multiple (c .period) (clock + 1) ≡ true
-      → tickOf c (putIn rest clock count lines bills) ≡ putIn (closedRest c rest (clock + 1) lines) (clock + 1) 0 (clearedLines lines) bills
-  unfolding tickOf closedRest
-  step-closes e = rw e
-
--- a new period begins with the runs that there are
-pub runs-cleared : (lines : List Line) → runningLines (clearedLines lines) ≡ runningLines lines
-unfolding runningLines clearedLines clearedAt cleared
-runs-cleared lines = mask-cong 16 (runningAt (table 16 (clearedAt lines))) (runningAt lines) (λ i l. rw (table-at 16 (clearedAt lines) i _ l))
 
 -- tariffs that are known at a second are those of the next one, but for a new minute
 pub aged-in-force : (c : Config) (clock : ℕ) (tariffs : Tariffs) → InForce c clock tariffs → InForce c (clock + 1) (agedTo (clock + 1) tariffs)
@@ -244,23 +201,16 @@ aged-in-force c clock tariffs known e =
 pub not-at-end : (clock count : ℕ) → (eqb clock 4_294_967_295 && leb 99 count) ≡ false → 99 ≤ count → clock ≤ 4_294_967_295 → clock < 4_294_967_295
 not-at-end clock count e h l = let n = eqb-false clock 4_294_967_295 (sym (and-true _) ∙ rw (le-leb 99 count h) at e) in omega arith
 
--- where samples only count, no line has a run, and the second is not full
-pub few : (running count room n : ℕ) → room ≡ roomOf running count → n ≤ room → 0 < n → (running ≡ 0) × (count + n ≤ 99)
-few running count room n e h p =
-    by-test (eqb running 0)
-    (λ t. let r : room ≡ 99 - count = rw t at e in (eqb-true running 0 t, omega arith))
-    (λ f. let r : room ≡ 0 = rw f at e in absurd (omega arith))
-
 -- samples with no line active and no run to end only count
 pub idle-on : (c : Config) (start rest : State) (clock count : ℕ) (lines : List Line) (bills : List Bill) (bits : List ℕ) (k n : ℕ)
-    → samplesOf c start bits ≡ later k (samplesOf c (putIn rest clock count lines bills) (drop k bits))
+    → stretchOf c start bits ≡ after k (stretchOf c (putIn rest clock count lines bills) (drop k bits))
     → k + n ≤ length bits → count + n ≤ 99 → ((j : ℕ) → j < n → 0 ≡ activeLines (c .inputs) (getD bits (k + j) 0)) → runningLines lines ≡ 0 → length lines ≡ 16 → length bills ≡ 16
-    → samplesOf c start bits ≡ later (k + n) (samplesOf c (putIn rest clock (count + n) lines bills) (drop (k + n) bits))
+    → stretchOf c start bits ≡ after (k + n) (stretchOf c (putIn rest clock (count + n) lines bills) (drop (k + n) bits))
 idle-on c start rest clock count lines bills bits k zero so-far h room idle none size sizes = rw (add-zero k, add-zero count) so-far
 idle-on c start rest clock count lines bills bits k (suc n) so-far h room idle none size sizes =
     let before = idle-on c start rest clock count lines bills bits k n so-far (omega arith) (omega arith) (λ j l. idle j (omega arith)) none size sizes in
     let one = sample-idle c rest clock (count + n) lines bills (getD bits (k + n) 0) (omega arith) (idle n (omega arith)) none size sizes in
-    let next = run-on c start (putIn rest clock (count + n) lines bills) bits (k + n) before _ (omega arith) one in
+    let next = goes-on c start (putIn rest clock (count + n) lines bills) bits (k + n) before _ (omega arith) one (counts-on c rest clock (count + n) lines bills) in
     let there : k + n + 1 ≡ k + suc n = omega arith in
     let counted : count + n + 1 ≡ count + suc n = omega arith in
     rw (there, counted) at next

@@ -3,13 +3,19 @@ use mathlib.Core.Path.{_≡_, refl, sym, ap, _∙_}
 use Prim.Native.Nat.{ℕ}
 use lib.Dec.{eqb}
 use Rattle.laws.specs.If.{if_then_else_}
-use Rattle.laws.specs.Unique.{OneResult, told-apart}
-use Rattle.sampling.specs.Samples.{numberOf, Run}
+use Rattle.laws.specs.Unique.{OneResult}
+use Rattle.laws.proofs.Unique.{told-apart}
+use Rattle.sampling.specs.Samples.{numberOf, Run, said}
+use Rattle.sampling.specs.Stretches.{Stretched}
+use Rattle.sampling.specs.declared.samples.Taking.{Taking}
 use Rattle.sampling.specs.declared.SampleAnswer.{SampleAnswer}
 use Rattle.sampling.specs.declared.SampleAnswer.the-variants.{Taken, ClockEnd, Full}
 use Rattle.sampling.proofs.samples.take.Reads as take-reads
+use Rattle.sampling.proofs.samples.run.Reads as run-reads
+use Rattle.sampling.proofs.samples.one.Reads as one-reads
 use Rattle.sampling.proofs.clock.cleared.Reads as cleared-reads
 use Rattle.sampling.proofs.clock.close_period.Reads as close-period-reads
+use Rattle.sampling.proofs.clock.close.Reads as close-reads
 
 -- document 01's number tells all answers to a sample apart
 pub sample-apart : (x y : SampleAnswer) → numberOf x ≡ numberOf y → x ≡ y
@@ -29,10 +35,28 @@ cleared κs a x y e f p q = p ∙ sym q
 pub close-period : OneResult close-period-reads.Post
 close-period κs a x y e f p q = p ∙ sym q
 
+pub close : OneResult close-reads.Post
+close κs a x y e f p q = p ∙ sym q
+
 pub take-once : OneResult take-reads.Post
 take-once κs a x y e f p q =
     let s = p ∙ sym q in
+    let state = ap (λ (r : Stretched). r .state) s in
+    let taken = ap (λ (r : Stretched). r .taken) s in
+    let answer = sample-apart (x .answer) (y .answer) (ap (λ (r : Stretched). r .number) s) in
+    let closes = ap (λ (r : Stretched). r .closes) s in
+    (λ i. record { state = state i; taken = taken i; answer = answer i; closes = closes i })
+
+-- two answers to a run that say the same are the same
+same-taking : (x y : Taking) → said x ≡ said y → x ≡ y
+same-taking x y s =
+    let state = ap (λ (r : Run). r .state) s in
     let taken = ap (λ (r : Run). r .taken) s in
     let answer = sample-apart (x .answer) (y .answer) (ap (λ (r : Run). r .number) s) in
-    let state = ap (λ (r : Run). r .state) s in
-    (λ i. record { taken = taken i; answer = answer i; state = state i })
+    (λ i. record { state = state i; taken = taken i; answer = answer i })
+
+pub run-once : OneResult run-reads.Post
+run-once κs a x y e f p q = same-taking x y (p ∙ sym q)
+
+pub one-once : OneResult one-reads.Post
+one-once κs a x y e f p q = same-taking x y (p ∙ sym q)

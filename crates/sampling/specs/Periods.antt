@@ -37,19 +37,6 @@ closedAs c state stamp lines = record { state = state; stamp = stamp; values = s
 abbrev pub stateOf : ℕ → ℕ → ℕ
 stateOf period first = if multiple period first then 2 else 1
 
--- the rest of a state whose period closes with the step to a new second
-unfoldable pub closedRest : Config → State → ℕ → List Line → State
-closedRest c rest now lines =
-    record {
-      clock = rest .clock;
-      samples = rest .samples;
-      first = now;
-      lines = rest .lines;
-      bills = rest .bills;
-      meters = rest .meters;
-      closed = closedAs c (stateOf (c .period) (rest .first)) now lines;
-    }
-
 -- the step: a new second, and on a multiple the period closes with the new time and the next begins
 unfoldable pub tickOf : Config → State → State
 tickOf c s =

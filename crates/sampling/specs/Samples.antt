@@ -98,10 +98,6 @@ numberOf Taken = 0
 numberOf ClockEnd = 5
 numberOf Full = 6
 
--- the code's answer to a run, with the state put together of its parts
-abbrev pub endedAs : State → ℕ → ℕ → List Line → List Bill → ℕ → SampleAnswer → Taking
-endedAs rest clock samples lines bills taken answer = record { taken = taken; answer = answer; state = putIn rest clock samples lines bills }
-
 -- what the code's answer to a run says
 abbrev pub said : Taking → Run
 said t = record { taken = t .taken; number = numberOf (t .answer); state = t .state }

@@ -1,12 +1,17 @@
 // One sample's booking: the units that its impulses bring, the sums, the tariffs and the bills, in this order.
-use counting::bills::Amounts;
-use counting::bills::book_amounts;
 use counting::bills::fed_registers;
+use counting::bills::register_units;
+use counting::bills::some_full;
 use counting::bills::sums_units;
-use counting::units::some_units;
 use settings::Config;
+use settings::Register;
 ghost use mathlib.Core.Path.{_≡_};
-ghost use Rattle.sampling.specs.Kept.{InForce, fedAtClock, agedTo, amountsAt};
+ghost use mathlib.Core.Bool.{false};
+ghost use Prim.Native.Nat.{_+_};
+ghost use lib.ListN.{length};
+ghost use Rattle.counting.specs.Bills.{fillsUp, sumsOf};
+ghost use Rattle.counting.specs.ByMask.{someFull, amountsBooked};
+ghost use Rattle.sampling.specs.Kept.{InForce, fedAtClock, agedTo, Brings};
 
 // The registers that units go to by the tariffs in force, once they are worked out: they stay the same to the end of the minute.
 pub struct Tariffs {
@@ -14,13 +19,8 @@ pub struct Tariffs {
     pub fed: u16,
 }
 
-// Whether a register would be full, and the open amounts; and the tariffs, which may have been worked out.
-pub struct Booking {
-    pub booked: Amounts,
-    pub tariffs: Tariffs,
-}
-
-fn tariffs_at(config: Config, clock: u32, tariffs: Tariffs) -> Tariffs
+// The tariffs with the registers worked out.
+pub(crate) fn tariffs_at(config: Config, clock: u32, tariffs: Tariffs) -> Tariffs
     requires { ⌜ InForce config clock tariffs ⌝ }
     ensures { λ r. ⌜ r .fed ≡ fedAtClock config clock ⌝ }
 {
@@ -45,33 +45,49 @@ pub(crate) fn aged(tariffs: Tariffs, clock: u32) -> Tariffs
     }
 }
 
-// Books the units of a sample. Without units there are no sums, tariffs and bills to ask.
-pub(crate) fn book(
-    config: Config,
-    clock: u32,
-    units: [u32; 16],
-    amounts: [u32; 16],
-    tariffs: Tariffs,
-) -> Booking
-    requires { ⌜ InForce config clock tariffs ⌝ }
-    ensures { λ r. ⌜ (r .booked ≡ amountsAt config clock units amounts) × InForce config clock (r .tariffs) ⌝ }
+// An amount with units that do not take it past 999,999,999.
+fn with_due(amount: u32, due: u64) -> u32
+    requires { ⌜ fillsUp amount due ≡ false ⌝ }
+    ensures { λ r. ⌜ r ≡ amount + due ⌝ }
 {
-    if !some_units(units) {
-        return Booking {
-            booked: Amounts {
-                full: false,
-                amounts,
-            },
-            tariffs,
-        };
+    ((amount as u64) + due) as u32
+}
+
+// Adds the units to the open amounts of the registers that they go to.
+fn add_due(amounts: &mut [u32; 16], registers: [Register; 16], fed: u16, sums: &[u64; 8])
+    requires { ⌜ (length (now amounts) ≡ 16) × (someFull registers (now amounts) fed (now sums) ≡ false) ⌝ }
+    ensures { λ _. ⌜ now (amounts .exit) ≡ amountsBooked registers (now (amounts .entry)) fed (now (sums .entry)) ⌝ }
+{
+    let mut left = fed;
+    while left > 0 {
+        let j = u16::trailing_zeros(left) as usize;
+        amounts[j] = with_due(amounts[j], register_units(registers[j], sums));
+        left = left & (left - 1);
+    }
+}
+
+// Books the units that the lines of a mask bring with a sample; where no units came there are no sums and bills to ask. Where a register would be full the answer is true, and no amount changes.
+pub(crate) fn book(
+    amounts: &mut [u32; 16],
+    config: Config,
+    fed: u16,
+    ending: u16,
+    units: [u32; 16],
+    brought: u32,
+) -> bool
+    requires { ⌜ (length (now amounts) ≡ 16) × Brings units ending brought ⌝ }
+    ensures full { λ r. ⌜ r ≡ someFull (config .registers) (now (amounts .entry)) fed (sumsOf (config .sums) units) ⌝ }
+    ensures amounts { λ _. ⌜ now (amounts .exit) ≡ amountsBooked (config .registers) (now (amounts .entry)) fed (sumsOf (config .sums) units) ⌝ }
+{
+    if brought == 0 {
+        return false;
     }
     let named = config.sums;
     let registers = config.registers;
-    let known = tariffs_at(config, clock, tariffs);
-    let sums = sums_units(named, units);
-    let booked = book_amounts(registers, amounts, known.fed, sums);
-    Booking {
-        booked,
-        tariffs: known,
+    let sums = sums_units(named, units, ending);
+    if some_full(amounts, registers, fed, &sums) {
+        return true;
     }
+    add_due(amounts, registers, fed, &sums);
+    false
 }

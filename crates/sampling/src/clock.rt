@@ -5,7 +5,8 @@ use crate::State;
 use counting::levels::level9;
 use settings::Config;
 ghost use mathlib.Core.Path.{_≡_};
-ghost use Rattle.sampling.specs.Periods.{multiple, clearedLines, stateOf, closedAs, closedRest};
+ghost use Rattle.sampling.specs.Periods.{multiple, clearedLines, stateOf, closedAs};
+ghost use Rattle.sampling.specs.Stretches.{closedOf};
 
 // Whether a time is a multiple of the period's seconds. No image has a period of 0 minutes; one that had would have no multiple.
 pub(crate) fn is_multiple(period: u8, time: u32) -> bool
@@ -57,13 +58,21 @@ fn step_state(period: u8, first: u32) -> u8
     1
 }
 
-// The rest of a state whose period closes with the step to a new second.
-pub(crate) fn close_rest(config: Config, rest: State, clock: u32, lines: [Line; 16]) -> State
-    ensures { λ r. ⌜ r ≡ closedRest config rest clock lines ⌝ }
+// The closing that the step brings: the period closes at the clock's new second, and the next begins with it.
+pub fn close(config: Config, state: State) -> State
+    ensures { λ r. ⌜ r ≡ closedOf config state ⌝ }
 {
-    let mut next = rest;
-    let closed = close_period(config, step_state(config.period, rest.first), clock, lines);
+    let lines = state.lines;
+    let closed = close_period(
+        config,
+        step_state(config.period, state.first),
+        state.clock,
+        lines,
+    );
+    let fresh = cleared(lines);
+    let mut next = state;
+    next.first = state.clock;
+    next.lines = fresh;
     next.closed = closed;
-    next.first = clock;
     next
 }

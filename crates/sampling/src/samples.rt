@@ -6,26 +6,38 @@ use crate::State;
 use crate::booking::Tariffs;
 use crate::booking::aged;
 use crate::booking::book;
-use crate::clock::cleared;
-use crate::clock::close_rest;
+use crate::booking::tariffs_at;
+use crate::clock::close;
 use crate::clock::is_multiple;
 use counting::bills::amounts_of;
 use counting::bills::put_amounts;
 use counting::filter::advance;
 use counting::filter::kind_mask;
 use counting::filter::running_lines;
-use counting::units::settle;
+use counting::units::settle_line;
+use counting::units::settle_units;
 use settings::Config;
 ghost use mathlib.Core.Path.{_≡_};
-ghost use Prim.Native.Nat.{_+_, _≤_};
+ghost use Prim.Native.Nat.{_+_, _-_, _≤_};
+ghost use mathlib.Core.List.{[], _∷_};
 ghost use lib.ListN.{length};
-ghost use Rattle.sampling.specs.Samples.{putIn, endedAs, samplesOf, said};
-ghost use Rattle.sampling.specs.Kept.{roomOf, Idle};
+ghost use Rattle.sampling.specs.Samples.{putIn, samplesOf, said};
+ghost use Rattle.sampling.specs.Stretches.{stretchOf, stretchSaid};
+ghost use Rattle.sampling.specs.Kept.{Idle, restoredLines};
 
+// What a run came to: the state, how many samples were taken, and the refusal that ended it, if there was one.
 pub struct Taking {
+    pub state: State,
     pub taken: usize,
     pub answer: SampleAnswer,
+}
+
+// A run to the first closing: also whether it ended with one, which is still to be done.
+pub struct Stretch {
     pub state: State,
+    pub taken: usize,
+    pub answer: SampleAnswer,
+    pub closes: bool,
 }
 
 fn put_in(state: State, clock: u32, samples: u8, lines: [Line; 16], bills: [Bill; 16]) -> State
@@ -39,33 +51,10 @@ fn put_in(state: State, clock: u32, samples: u8, lines: [Line; 16], bills: [Bill
     next
 }
 
-// What a run answers, with the state put together of its parts.
-fn ended(
-    rest: State,
-    clock: u32,
-    samples: u8,
-    lines: [Line; 16],
-    bills: [Bill; 16],
-    taken: usize,
-    answer: SampleAnswer,
-) -> Taking
-    ensures { λ r. ⌜ r ≡ endedAs rest clock samples lines bills taken answer ⌝ }
+// How many samples may only count while no line has a run: up to the hundredth.
+fn room(count: u8) -> usize
+    ensures { λ r. ⌜ r ≡ 99 - count ⌝ }
 {
-    let state = put_in(rest, clock, samples, lines, bills);
-    Taking {
-        taken,
-        answer,
-        state,
-    }
-}
-
-// How many samples may only count: none where a line has a run, else up to the hundredth.
-fn room(running: u16, count: u8) -> usize
-    ensures { λ r. ⌜ r ≡ roomOf running count ⌝ }
-{
-    if running > 0 {
-        return 0;
-    }
     if count >= 99 {
         return 0;
     }
@@ -83,13 +72,45 @@ fn end_of(length: usize, k: usize, room: usize) -> usize
     k + room
 }
 
-// How many of the samples from k on, at most `room`, have no line active.
+// The lines with those of a mask as they were.
+fn restored(lines: [Line; 16], old: [Line; 16], mask: u16) -> [Line; 16]
+    ensures { λ r. ⌜ r ≡ restoredLines lines old mask ⌝ }
+{
+    let mut next = lines;
+    let mut left = mask;
+    while left > 0 {
+        let i = u16::trailing_zeros(left) as usize;
+        next[i] = old[i];
+        left = left & (left - 1);
+    }
+    next
+}
+
+// The lines that are active in one of the eight samples from k on.
+fn some_of_eight(bits: &[u16], k: usize, fitted: u16, s1r: u16) -> u16
+    requires { ⌜ k + 8 ≤ length (now bits) ⌝ }
+    ensures { λ r. ⌜ (r ≡ 0 → Idle (now (bits .entry)) fitted s1r k 8) ⌝ }
+{
+    let mut some: u16 = 0;
+    for j in 0..8usize {
+        some = some | ((bits[k + j] ^ s1r) & fitted);
+    }
+    some
+}
+
+// How many of the samples from k on, at most `room`, have no line active: eight at once, while none of them has, and then one by one.
 fn idle_samples(bits: &[u16], k: usize, room: usize, fitted: u16, s1r: u16) -> usize
     requires { ⌜ k ≤ length (now bits) ⌝ }
     ensures { λ r. ⌜ (r ≤ room) × (k + r ≤ length (now (bits .entry))) × Idle (now (bits .entry)) fitted s1r k r ⌝ }
 {
     let end = end_of(bits.len(), k, room);
     let mut at = k;
+    while 8 <= end - at {
+        if some_of_eight(bits, at, fitted, s1r) > 0 {
+            break;
+        }
+        at += 8;
+    }
     while at < end {
         if ((bits[at] ^ s1r) & fitted) > 0 {
             return at - k;
@@ -99,15 +120,15 @@ fn idle_samples(bits: &[u16], k: usize, room: usize, fitted: u16, s1r: u16) -> u
     at - k
 }
 
-// The samples one after another, up to the first refusal. Only lines whose runs end are judged, and only those that are active have their runs advanced, in place.
-pub fn take(config: Config, start: State, bits: &[u16]) -> Taking
-    ensures { λ r. ⌜ said r ≡ samplesOf config start (now (bits .entry)) ⌝ }
+// The samples one after another, up to the first refusal or the first that steps the clock onto a multiple of the period: the closing is the caller's. Only lines
+// whose runs end are judged, and only those that are active have their runs advanced, in place.
+pub fn take(config: Config, start: State, bits: &[u16]) -> Stretch
+    ensures { λ r. ⌜ stretchSaid r ≡ stretchOf config start (now (bits .entry)) ⌝ }
 {
     let inputs = config.inputs;
     let s1r = kind_mask(inputs, 2);
     let fitted = kind_mask(inputs, 1) | s1r;
     let bills = start.bills;
-    let mut rest = start;
     let mut clock = start.clock;
     let mut count = start.samples;
     let mut lines = start.lines;
@@ -118,13 +139,16 @@ pub fn take(config: Config, start: State, bits: &[u16]) -> Taking
         fed: 0,
     };
     let mut answer = SampleAnswer::Taken;
+    let mut closes = false;
     let mut k: usize = 0;
     while k < bits.len() {
-        let idle = idle_samples(bits, k, room(running, count), fitted, s1r);
-        if idle > 0 {
-            count += idle as u8;
-            k += idle;
-            continue;
+        if running == 0 {
+            let idle = idle_samples(bits, k, room(count), fitted, s1r);
+            if idle > 0 {
+                count += idle as u8;
+                k += idle;
+                continue;
+            }
         }
         if (clock == 4294967295) & (99 <= count) {
             answer = SampleAnswer::ClockEnd;
@@ -135,18 +159,32 @@ pub fn take(config: Config, start: State, bits: &[u16]) -> Taking
         // The first inactive sample after a run ends it.
         let ending = running ^ (running & active);
         if ending > 0 {
-            let credits = settle(inputs, lines, ending);
-            let units = credits.units;
-            let booking = book(config, clock, units, amounts, tariffs);
-            let booked = booking.booked;
-            // Nothing of this sample has been kept yet.
-            if booked.full {
+            let mut old = [Line {
+                run: 0,
+                rejected: 0,
+                remainder: 0,
+                units: 0,
+            }; 16];
+            let mut units = [0u32; 16];
+            let mut brought: u32 = 0;
+            let mut left = ending;
+            while left > 0 {
+                let i = u16::trailing_zeros(left) as usize;
+                let line = lines[i];
+                let n = settle_units(inputs[i], line);
+                units[i] = n;
+                brought = brought | n;
+                old[i] = line;
+                lines[i] = settle_line(inputs[i], line);
+                left = left & (left - 1);
+            }
+            tariffs = tariffs_at(config, clock, tariffs);
+            // Nothing of a sample that is refused is kept.
+            if book(&mut amounts, config, tariffs.fed, ending, units, brought) {
+                lines = restored(lines, old, ending);
                 answer = SampleAnswer::Full;
                 break;
             }
-            lines = credits.lines;
-            amounts = booked.amounts;
-            tariffs = booking.tariffs;
         }
         // The runs of the active lines go on, one set bit after another.
         let mut left = active;
@@ -166,20 +204,61 @@ pub fn take(config: Config, start: State, bits: &[u16]) -> Taking
         // After the hundredth the clock steps, and on a multiple the period closes.
         clock += 1;
         count = 0;
-        tariffs = aged(tariffs, clock);
         if is_multiple(config.period, clock) {
-            rest = close_rest(config, rest, clock, lines);
-            let fresh = cleared(lines);
-            lines = fresh;
+            closes = true;
+            break;
         }
+        tariffs = aged(tariffs, clock);
     }
-    ended(
-        rest,
-        clock,
-        count,
-        lines,
-        put_amounts(bills, amounts),
-        k,
+    let state = put_in(start, clock, count, lines, put_amounts(bills, amounts));
+    Stretch {
+        state,
+        taken: k,
         answer,
-    )
+        closes,
+    }
+}
+
+// The samples one after another, up to the first refusal: stretch after stretch, with the closings between them.
+pub fn run(config: Config, start: State, bits: &[u16]) -> Taking
+    ensures { λ r. ⌜ said r ≡ samplesOf config start (now (bits .entry)) ⌝ }
+{
+    let mut now = start;
+    let mut k: usize = 0;
+    loop {
+        let stretch = take(config, now, &bits[k..]);
+        let state = stretch.state;
+        let answer = stretch.answer;
+        k += stretch.taken;
+        if !stretch.closes {
+            return Taking {
+                state,
+                taken: k,
+                answer,
+            };
+        }
+        now = close(config, state);
+    }
+}
+
+// One sample, with the closing that it may bring.
+pub fn one(config: Config, start: State, bits: u16) -> Taking
+    ensures { λ r. ⌜ said r ≡ samplesOf config start (bits ∷ []) ⌝ }
+{
+    let alone = [bits];
+    let stretch = take(config, start, &alone);
+    let state = stretch.state;
+    let answer = stretch.answer;
+    if stretch.closes {
+        return Taking {
+            state: close(config, state),
+            taken: stretch.taken,
+            answer,
+        };
+    }
+    Taking {
+        state,
+        taken: stretch.taken,
+        answer,
+    }
 }

@@ -7,7 +7,8 @@ use native.Mathlib.Nat.{le-refl}
 use borrow.Author.Tests.{le-ltb}
 use lib.Dec.{ltb}
 use Rattle.laws.specs.Answers.{Answer}
-use Rattle.laws.specs.Masks.{maskOf, bitAt, bit-at}
+use Rattle.laws.specs.Masks.{maskOf, bitAt}
+use Rattle.laws.proofs.Masks.{bit-at}
 use Rattle.settings.specs.Rules.{fittedIn}
 use Rattle.settings.specs.Check.{verdictAt, orElse}
 use Rattle.settings.specs.declared.Input.{Input}

@@ -4,8 +4,8 @@ use mathlib.Core.Bool.{true, false}
 use mathlib.Core.Option.{some, none}
 use Prim.Native.Nat.{ℕ, _<_}
 use borrow.Author.Tests.{lt-ltb}
-use Rattle.laws.specs.Any.{any-at, any-none}
-use Rattle.laws.specs.First.{first-is, first-none}
+use Rattle.laws.proofs.Any.{any-at, any-none}
+use Rattle.laws.proofs.First.{first-is, first-none}
 use Rattle.tariff.specs.Daily.{windowActive, dailyActive}
 use Rattle.tariff.specs.Weekly.{fitsAt, firstHoliday}
 use Rattle.tariff.specs.declared.Program.{Program}

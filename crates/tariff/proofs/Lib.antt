@@ -3,3 +3,4 @@ pub mod Found
 pub mod Maps
 pub mod Laws
 pub mod Unique
+pub mod Cases

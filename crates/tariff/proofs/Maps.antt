@@ -5,8 +5,9 @@ use mathlib.Core.List.{List}
 use Prim.Native.Nat.{ℕ}
 use lib.Dec.{ltb, eqb}
 use borrow.Author.Tests.{lt-ltb}
-use Rattle.laws.specs.Tests.{by-test}
-use Rattle.laws.specs.Masks.{maskOf, bitAt, bit-at, mask-cong}
+use Rattle.laws.proofs.Tests.{by-test}
+use Rattle.laws.specs.Masks.{maskOf, bitAt}
+use Rattle.laws.proofs.Masks.{bit-at, mask-cong}
 use Rattle.calendar.specs.declared.Moment.{Moment}
 use Rattle.tariff.specs.Daily.{dailyActive, activeIn, dailyMap}
 use Rattle.tariff.specs.Weekly.{columnOn, referenceIn, referenceAt, minuteOf, weeklyActive, weeklyAt, weeklyMap}

@@ -1,9 +1,8 @@
 -- Lines 8 and 9 of document 01's table: minutes of a window, days of a season.
-use mathlib.Core.Path.{_≡_, refl}
+use mathlib.Core.Path.{_≡_}
 use mathlib.Core.Bool.{Bool, true, false}
 use mathlib.Core.List.{List, [], _∷_}
 use Prim.Native.Nat.{ℕ}
-use Rattle.laws.specs.Each.{Each}
 use Rattle.tariff.specs.Daily.{inWindow}
 use Rattle.tariff.specs.Seasons.{inSeason}
 use Rattle.tariff.specs.declared.Window.{Window}
@@ -33,8 +32,8 @@ abbrev winter : Season
 winter = record { first = on 1 11; second = on 28 2 }
 
 -- lines 8 and 9
-abbrev pub table : List Case
-table =
+abbrev pub cases : List Case
+cases =
     minute-of daytime 359 false
     ∷ minute-of daytime 360 true
     ∷ minute-of daytime 1319 true
@@ -43,8 +42,3 @@ table =
     ∷ date-of winter (on 28 2) true
     ∷ date-of winter (on 29 2) false
     ∷ []
-
--- all of them hold: antt computes both sides of each
-pub table-holds : Each Claim table
-unfolding inSeason
-table-holds = (refl, (refl, (refl, (refl, (refl, (refl, (refl, tt)))))))

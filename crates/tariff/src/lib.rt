@@ -115,8 +115,11 @@ pub fn daily_map(program: Program, minute: u16) -> u32
 fn holiday_fits(h: Holiday, day: u8, month: u8, year: u16) -> bool
     ensures { λ r. ⌜ r ≡ fits h day month year ⌝ }
 {
+    if h.day != day {
+        return false;
+    }
     let unused = (h.day == 0) & (h.month == 0) & (h.year == 0);
-    !unused & (h.day == day) & (h.month == month) & ((h.year == 0) | (h.year == year))
+    !unused & (h.month == month) & ((h.year == 0) | (h.year == year))
 }
 
 // The look stops at the first holiday that fits.
@@ -207,12 +210,15 @@ fn in_season(s: Season, date: Date) -> bool
     let first = s.first;
     let second = s.second;
     let unused = (first.day == 0) & (first.month == 0) & (second.day == 0) & (second.month == 0);
+    if unused {
+        return false;
+    }
     let begun = not_after(first, date);
     let lasts = not_after(date, second);
     if not_after(first, second) {
-        return !unused & (begun & lasts);
+        return begun & lasts;
     }
-    !unused & (begun | lasts)
+    begun | lasts
 }
 
 pub fn season_active(program: Program, season: u8, date: Date) -> bool

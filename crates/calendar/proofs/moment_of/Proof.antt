@@ -3,7 +3,8 @@ use mathlib.Core.Path.{_≡_, ap, _∙_}
 use Prim.Native.Nat.{_+_, _-_, _/_, _≤_, _<_}
 use native.Mathlib.Omega.{arith}
 use borrow.Author.Needs.{needs}
-use Rattle.laws.specs.Total.{total, total-more}
+use Rattle.laws.specs.Total.{total}
+use Rattle.laws.proofs.Total.{total-more}
 use Rattle.laws.specs.Answers.{given}
 use Rattle.calendar.specs.Dates.{monthLength}
 use Rattle.calendar.proofs.Months.{year-below, left-below, month-is}

@@ -1,7 +1,7 @@
 -- `image::write_image` meets its contract: each answer by the tests that led to it.
 use mathlib.Core.Path.{sym, ap, _∙_}
 use borrow.Author.Needs.{needs}
-use Rattle.laws.specs.Arrays.{length-mapped}
+use Rattle.laws.proofs.Arrays.{length-mapped}
 use Rattle.image.specs.Image.{Counted}
 use Rattle.image.specs.Answers.{verdictSaid}
 use Rattle.image.proofs.Answers.{write-value, write-no-room, write-image}

@@ -10,7 +10,7 @@ use mir.Val.{SFits}
 use types.Run.{OneOf}
 use denote.Enum.Declared
 use denote.Struct.Field.{u8-field, u16-field, i8-field}
-use Rattle.laws.specs.Arrays.{length-mapped, each-field}
+use Rattle.laws.proofs.Arrays.{length-mapped, each-field}
 use Rattle.image.specs.Image.{Counted, Typed, TypedInput, TypedWindow, TypedHoliday, Wide}
 use Rattle.image.specs.Answers.{writeSaid}
 use Rattle.image.specs.declared.WriteAnswer.{WriteAnswer}

@@ -2,7 +2,7 @@
 use mathlib.Core.Path.{_≡_, refl}
 use native.Mathlib.Omega.{arith}
 use Rattle.laws.specs.Answers.{given}
-use Rattle.laws.specs.Keys.{in-range}
+use Rattle.laws.proofs.Keys.{in-range}
 use Rattle.registers.specs.Registers.{groups, lookUp, layoutOf}
 use Rattle.registers.proofs.Groups.{none-found}
 use Rattle.registers.proofs.layout_of.Statement.{statement}

@@ -3,7 +3,7 @@ use mathlib.Core.Path.{refl, ap, _∙_}
 use mathlib.Core.Bool.{true}
 use lib.Dec.{lit≤}
 use Rattle.laws.specs.Masks.{bitAt}
-use Rattle.laws.specs.Broken.{never-broken}
+use Rattle.laws.proofs.Broken.{never-broken}
 use Rattle.settings.specs.Check.{sections, firstBad, checked}
 use Rattle.settings.proofs.Verdicts.{fitted-test, verdict-before, no-verdict}
 use Rattle.settings.proofs.check_config.Statement.{statement}

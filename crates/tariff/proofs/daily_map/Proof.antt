@@ -5,7 +5,8 @@ use Prim.Native.Nat.{ℕ, _-_, _<_, _≤_}
 use native.Mathlib.Omega.{arith}
 use borrow.Author.Count.{below-none, below-more}
 use borrow.Author.Needs.{needs}
-use Rattle.laws.specs.Masks.{maskOf, mask-none, mask-set, mask-fits, mask-clear, mask-done}
+use Rattle.laws.specs.Masks.{maskOf}
+use Rattle.laws.proofs.Masks.{mask-none, mask-set, mask-fits, mask-clear, mask-done}
 use Rattle.tariff.specs.Daily.{windowActive, activeIn, dailyMap}
 use Rattle.tariff.proofs.Found.{daily-on, daily-off}
 use Rattle.tariff.proofs.daily_map.Statement.{statement}

@@ -3,7 +3,8 @@ use mathlib.Core.Path.{_≡_, _∙_}
 use Prim.Native.Nat.{_-_, _≤_}
 use native.Mathlib.Omega.{arith}
 use borrow.Author.Needs.{needs}
-use Rattle.laws.specs.Masks.{maskOf, mask-none, mask-turn, mask-below, mask-done}
+use Rattle.laws.specs.Masks.{maskOf}
+use Rattle.laws.proofs.Masks.{mask-none, mask-turn, mask-below, mask-done}
 use Rattle.tariff.proofs.Maps.{appliesAt, applies-by-bits, force-made}
 use Rattle.tariff.proofs.force_map.Statement.{statement}
 use Rattle.tariff.proofs.force_map.Tie as tie

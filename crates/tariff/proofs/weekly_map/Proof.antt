@@ -3,7 +3,8 @@ use mathlib.Core.Path.{_≡_, ap, _∙_}
 use Prim.Native.Nat.{_-_, _≤_}
 use native.Mathlib.Omega.{arith}
 use borrow.Author.Needs.{needs}
-use Rattle.laws.specs.Masks.{maskOf, bitAt, mask-none, mask-turn, mask-below, mask-done}
+use Rattle.laws.specs.Masks.{maskOf, bitAt}
+use Rattle.laws.proofs.Masks.{mask-none, mask-turn, mask-below, mask-done}
 use Rattle.tariff.proofs.Maps.{usedAt, weekly-made}
 use Rattle.tariff.proofs.weekly_map.Statement.{statement}
 use Rattle.tariff.proofs.weekly_map.Tie as tie

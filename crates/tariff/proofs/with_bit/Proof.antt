@@ -3,7 +3,7 @@ use native.Mathlib.Nat.{one-mul, zero-mul, zero-add, pow-suc}
 use native.Mathlib.Omega.{arith}
 use borrow.Author.Needs.{needs}
 use lib.Pow.{pow-mono}
-use Rattle.laws.specs.Masks.{shl-is}
+use Rattle.laws.proofs.Masks.{shl-is}
 use Rattle.tariff.proofs.with_bit.Statement.{statement}
 use Rattle.tariff.proofs.with_bit.Tie as tie
 

@@ -7,8 +7,9 @@ use borrow.Author.Needs.{needs}
 use denote.Ref.{now}
 use lib.ListN.{getD}
 use Rattle.laws.specs.Masks.{bitAt}
-use Rattle.laws.specs.Tables.{fillTo, fill-none, fill-more, fill-done}
-use Rattle.counting.specs.Bills.{unitAt, partOf, addedUnits}
+use Rattle.laws.proofs.Tables.{fillTo, fill-none, fill-more, fill-done}
+use Rattle.counting.specs.Bills.{unitAt, partOf}
+use Rattle.counting.specs.ByMask.{addedUnits}
 use Rattle.counting.proofs.Sums.{fill-rest}
 use Rattle.counting.proofs.bills.add_units.Statement.{statement}
 use Rattle.counting.proofs.bills.add_units.Tie as tie

@@ -3,8 +3,9 @@ use mathlib.Core.Path.{_≡_, refl}
 use Prim.Native.Nat.{_-_, _≤_}
 use native.Mathlib.Omega.{arith}
 use borrow.Author.Needs.{needs}
-use Rattle.laws.specs.Tables.{fillTo, fill-none, fill-more, fill-done}
-use Rattle.counting.specs.Bills.{billAt, amountsOf}
+use Rattle.laws.proofs.Tables.{fillTo, fill-none, fill-more, fill-done}
+use Rattle.counting.specs.Bills.{billAt}
+use Rattle.counting.specs.ByMask.{amountsOf}
 use Rattle.counting.proofs.bills.amounts_of.Statement.{statement}
 use Rattle.counting.proofs.bills.amounts_of.Tie as tie
 

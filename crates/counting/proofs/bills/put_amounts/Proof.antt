@@ -3,9 +3,9 @@ use mathlib.Core.Path.{_≡_, refl}
 use Prim.Native.Nat.{_-_, _≤_}
 use native.Mathlib.Omega.{arith}
 use borrow.Author.Needs.{needs}
-use Rattle.laws.specs.Arrays.{length-mapped}
-use Rattle.laws.specs.Tables.{fillTo, fill-none, fill-more, fill-done}
-use Rattle.counting.specs.Bills.{withAmountAt, withAmounts}
+use Rattle.laws.proofs.Arrays.{length-mapped}
+use Rattle.laws.proofs.Tables.{fillTo, fill-none, fill-more, fill-done}
+use Rattle.counting.specs.ByMask.{withAmountAt, withAmounts}
 use Rattle.counting.proofs.bills.put_amounts.Statement.{statement}
 use Rattle.counting.proofs.bills.put_amounts.Tie as tie
 

@@ -11,7 +11,7 @@ returns c = rw (le-ltb _ _ (c .if1 .taken))
 
 returns-2 : tie.Need-returns-2
 unfolding registerUnits
-returns-2 c = rw (lt-ltb _ _ (c .if1 .left))
+returns-2 c = rw (lt-ltb _ _ (c .before .if1 .left))
 
 pub register-units-spec : {M : Type 1} → statement M
 register-units-spec =

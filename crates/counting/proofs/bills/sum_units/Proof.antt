@@ -3,7 +3,8 @@ use mathlib.Core.Path.{_≡_}
 use Prim.Native.Nat.{_-_, _*_, _≤_}
 use native.Mathlib.Omega.{arith}
 use borrow.Author.Needs.{needs}
-use Rattle.laws.specs.Total.{total, total-none, total-turn, total-done}
+use Rattle.laws.specs.Total.{total}
+use Rattle.laws.proofs.Total.{total-none, total-turn, total-done}
 use Rattle.counting.specs.Bills.{unitAt, namedPart, sumOf}
 use Rattle.counting.proofs.bills.sum_units.Statement.{statement}
 use Rattle.counting.proofs.bills.sum_units.Tie as tie

@@ -1,36 +1,40 @@
--- `counting::bills::sums_units` meets its contract. The loop's invariant: the totals are the sums' units of the inputs before i.
+-- `counting::bills::sums_units` meets its contract. The loop's invariant: the totals are the sums' units of the inputs of the mask that are no more in `left`.
 use mathlib.Core.Path.{_≡_, _∙_}
-use mathlib.Core.Logic.{⊎-elim}
-use Prim.Native.Nat.{_-_, _≤_}
+use Prim.Native.Nat.{_<_, _≤_, _^_}
 use native.Mathlib.Omega.{arith}
 use borrow.Author.Needs.{needs}
-use Rattle.counting.proofs.Sums.{sumsTo, sums-none, sums-more, sums-skip, sums-done, sums-long, sums-below}
+use lib.Count.{trailingZeros, trailing-le}
+use Rattle.counting.specs.Bills.{unitAt, sumsOf}
+use Rattle.counting.proofs.Sparse.{Half, lowest-below, drop-less}
+use Rattle.counting.proofs.Sums.{unitsPast, sums-start, past-start, past-turn, sums-turn, sums-done, sums-long, sums-below}
 use Rattle.counting.proofs.bills.sums_units.Statement.{statement}
 use Rattle.counting.proofs.bills.sums_units.Tie as tie
 
 abbrev Inv-loop : tie.InvT-loop
-Inv-loop sums units totals₀ i₀ totals i = (i ≤ 16) × (totals ≡ sumsTo sums units i)
+Inv-loop sums mask units totals₀ left₀ totals left =
+    (left < 2 ^ 16) × (trailingZeros 16 left ≤ 16) × Half mask left (unitAt units) (λ i. 0) (unitsPast units mask left) × (totals ≡ sumsOf sums (unitsPast units mask left))
 
 abbrev μ-loop : tie.MeasureT-loop
-μ-loop sums units totals₀ i₀ totals i = 16 - i
+μ-loop sums mask units totals₀ left₀ totals left = left
 
 loop-holds : tie.Need-loop-holds Inv-loop μ-loop
-loop-holds c = (search needs, sums-none _ _)
+loop-holds c = (omega arith, trailing-le 16 _, past-start (c .args .sums) (c .args .t2) (c .args .mask), sums-start (c .args .sums) (c .args .t2) (c .args .mask))
 
 add-units-requires : tie.Need-add-units-requires Inv-loop μ-loop
-add-units-requires c κs =
-    let i = c .before .before .before .loop .inv .1 in
-    (sums-long _ _ _ _ i, sums-below _ _ _ _ i (search needs) (λ j. search needs))
+add-units-requires c κs = let l = c .before .before .loop in let a = c .before .before .before .args in (sums-long (a .sums) (a .t2) (a .mask) (l .left) _ (l .inv .3), sums-below (a .sums) (a .t2) (a .mask) (l .left) _ (l .inv .3) (λ j. search needs))
+
+loop-less : tie.Need-loop-less Inv-loop μ-loop
+loop-less c = drop-less _ (c .before .before .loop-test .taken)
 
 loop-again : tie.Need-loop-again Inv-loop μ-loop
 loop-again c =
-    let i = c .before .before .loop .inv .1 in (
-      omega arith,
-      ⊎-elim (λ w. w .3 ∙ w .2 .ensures ∙ sums-more _ _ _ _ i) (λ w. w .1 ∙ sums-skip _ _ _ _ i (omega (arith, w .0 .left))) (c .if1 .came),
-    )
+    let h = c .before .before .before .loop .inv in
+    let p = c .before .before .loop-test .taken in
+    let a = c .before .before .before .before .args in
+    (omega (arith, drop-less _ p), trailing-le 16 _, past-turn (a .sums) (a .t2) (a .mask) _ p (h .0) (h .2), c .add-units .ensures ∙ sums-turn (a .sums) (a .t2) (a .mask) _ p (h .0) (h .2) _ (h .3))
 
 returns : tie.Need-returns Inv-loop μ-loop
-returns c = sums-done _ _ _ _ (c .before .loop .inv .1) (c .before .loop .inv .0) (c .loop-test .left)
+returns c = let h = c .before .loop .inv in let a = c .before .before .args in sums-done (a .sums) (a .t2) (a .mask) _ _ (omega arith) (h .2) (h .3)
 
 pub sums-units-spec : {M : Type 1} → statement M
 sums-units-spec =
@@ -41,10 +45,9 @@ sums-units-spec =
     loop-holds
     (λ c. search needs)
     (λ c. search needs)
-    (λ c. search needs)
-    (λ c. search needs)
+    (λ c. search (needs, lowest-below))
     add-units-requires
     (λ c. search needs)
-    (λ c. search needs)
+    loop-less
     loop-again
     returns)

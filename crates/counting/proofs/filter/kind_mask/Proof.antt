@@ -3,8 +3,9 @@ use mathlib.Core.Path.{_≡_, refl}
 use Prim.Native.Nat.{_-_, _≤_}
 use native.Mathlib.Omega.{arith}
 use borrow.Author.Needs.{needs}
-use Rattle.laws.specs.Masks.{maskOf, mask-none, mask-turn, mask-below, mask-done}
-use Rattle.counting.specs.Filter.{kindAt, kindMask}
+use Rattle.laws.specs.Masks.{maskOf}
+use Rattle.laws.proofs.Masks.{mask-none, mask-turn, mask-below, mask-done}
+use Rattle.counting.specs.ByMask.{kindAt, kindMask}
 use Rattle.counting.proofs.filter.kind_mask.Statement.{statement}
 use Rattle.counting.proofs.filter.kind_mask.Tie as tie
 

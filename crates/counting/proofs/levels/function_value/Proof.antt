@@ -9,8 +9,9 @@ use mir.Val.{SFits, toZ, ofZ}
 use mir.Facts.{toZ-ofZ}
 use borrow.Author.Tests.{lt-ltb, le-ltb}
 use borrow.Author.Needs.{needs}
-use Rattle.laws.specs.Arrays.{elem-sfits}
-use Rattle.laws.specs.SignedTotal.{abs-fits, totalℤ, totalℤ-none, totalℤ-turn, totalℤ-done}
+use Rattle.laws.proofs.Arrays.{elem-sfits}
+use Rattle.laws.specs.SignedTotal.{totalℤ}
+use Rattle.laws.proofs.SignedTotal.{abs-fits, totalℤ-none, totalℤ-turn, totalℤ-done}
 use Rattle.counting.specs.Bills.{sumAt}
 use Rattle.counting.specs.Levels.{termAt, level2, functionValue}
 use Rattle.counting.proofs.levels.function_value.Statement.{statement}

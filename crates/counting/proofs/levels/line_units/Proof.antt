@@ -3,7 +3,7 @@ use mathlib.Core.Path.{_≡_, refl}
 use Prim.Native.Nat.{_-_, _≤_}
 use native.Mathlib.Omega.{arith}
 use borrow.Author.Needs.{needs}
-use Rattle.laws.specs.Tables.{fillTo, fill-none, fill-more, fill-done}
+use Rattle.laws.proofs.Tables.{fillTo, fill-none, fill-more, fill-done}
 use Rattle.counting.specs.Levels.{level0At, level0}
 use Rattle.counting.proofs.levels.line_units.Statement.{statement}
 use Rattle.counting.proofs.levels.line_units.Tie as tie

@@ -6,7 +6,7 @@ use mir.Syntax.{w64}
 use mir.Facts.{toZ-ofZ}
 use borrow.Author.Needs.{sfits-of}
 use borrow.Author.Needs.{needs}
-use Rattle.laws.specs.Tables.{fillTo, fill-none, fill-more, fill-done}
+use Rattle.laws.proofs.Tables.{fillTo, fill-none, fill-more, fill-done}
 use Rattle.counting.specs.Levels.{slotValueAt, slotValues}
 use Rattle.counting.proofs.levels.slot_values.Statement.{statement}
 use Rattle.counting.proofs.levels.slot_values.Tie as tie

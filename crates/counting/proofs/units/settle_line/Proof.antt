@@ -1,6 +1,7 @@
 -- `counting::units::settle_line` meets its contract: remainder, units and count are what the calls ensure.
 use borrow.Author.Needs.{needs}
-use Rattle.counting.specs.Units.{settled, credited}
+use Rattle.counting.specs.Units.{credited}
+use Rattle.counting.specs.ByMask.{settled}
 use Rattle.counting.proofs.units.settle_line.Statement.{statement}
 use Rattle.counting.proofs.units.settle_line.Tie as tie
 

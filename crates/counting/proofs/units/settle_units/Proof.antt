@@ -1,6 +1,6 @@
 -- `counting::units::settle_units` meets its contract.
 use borrow.Author.Needs.{needs}
-use Rattle.counting.specs.Units.{settledUnits}
+use Rattle.counting.specs.ByMask.{settledUnits}
 use Rattle.counting.proofs.units.settle_units.Statement.{statement}
 use Rattle.counting.proofs.units.settle_units.Tie as tie
 

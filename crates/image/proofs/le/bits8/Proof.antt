@@ -5,7 +5,7 @@ use lib.IntN.{pos}
 use mir.Syntax.{w8}
 use mir.Val.{toZ, ofZ}
 use mir.Facts.{toZ-ofZ, fits-ofZ}
-use Rattle.laws.specs.Signed.{Negative, negative, natural}
+use Rattle.laws.proofs.Signed.{Negative, negative, natural}
 use Rattle.image.proofs.le.bits8.Statement.{statement}
 use Rattle.image.proofs.le.bits8.Tie as tie
 

@@ -1,7 +1,7 @@
 -- `image::le::put_u8` meets its contract: a byte is its one byte.
 use native.Mathlib.Omega.{arith}
 use borrow.Author.Needs.{needs}
-use Rattle.laws.specs.Bytes.{bytesOf-1}
+use Rattle.laws.proofs.Bytes.{bytesOf-1}
 use Rattle.image.proofs.le.put_u8.Statement.{statement}
 use Rattle.image.proofs.le.put_u8.Tie as tie
 

@@ -1,7 +1,7 @@
 -- `image::le::u16_at` meets its contract: the two bytes joined are the number.
 use mathlib.Core.Path.{_∙_}
 use borrow.Author.Needs.{needs}
-use Rattle.laws.specs.Bytes.{le-2}
+use Rattle.laws.proofs.Bytes.{le-2}
 use Rattle.image.proofs.le.u16_at.Statement.{statement}
 use Rattle.image.proofs.le.u16_at.Tie as tie
 

@@ -1,6 +1,6 @@
 -- `image::le::u8_at` meets its contract: the byte is the number.
 use borrow.Author.Needs.{needs}
-use Rattle.laws.specs.Bytes.{le-1}
+use Rattle.laws.proofs.Bytes.{le-1}
 use Rattle.image.proofs.le.u8_at.Statement.{statement}
 use Rattle.image.proofs.le.u8_at.Tie as tie
 

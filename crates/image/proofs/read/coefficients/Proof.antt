@@ -4,7 +4,7 @@ use Prim.Native.Nat.{_-_}
 use borrow.Author.Needs.{needs, sfits-of}
 use mir.Facts.{toZ-ofZ}
 use mir.Syntax.{w8}
-use Rattle.laws.specs.Runs.{Filled, filled-none, filled-more, filled-all}
+use Rattle.laws.proofs.Runs.{Filled, filled-none, filled-more, filled-all}
 use Rattle.image.specs.Entries.{coefficientOf}
 use Rattle.image.proofs.read.coefficients.Statement.{statement}
 use Rattle.image.proofs.read.coefficients.Tie as tie

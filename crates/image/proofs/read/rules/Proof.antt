@@ -1,7 +1,7 @@
 -- `image::read::rules` meets its contract. The loop's invariant: the entries before i are there.
 use Prim.Native.Nat.{_-_}
 use borrow.Author.Needs.{needs}
-use Rattle.laws.specs.Runs.{Filled, filled-none, filled-more, filled-all}
+use Rattle.laws.proofs.Runs.{Filled, filled-none, filled-more, filled-all}
 use Rattle.image.specs.Entries.{ruleOf}
 use Rattle.image.proofs.read.rules.Statement.{statement}
 use Rattle.image.proofs.read.rules.Tie as tie

@@ -7,8 +7,8 @@ use lib.IntN.{pos}
 use mir.Syntax.{w8}
 use mir.Val.{SFits}
 use mir.Facts.{toZ-ofZ}
-use Rattle.laws.specs.Arrays.{elem-sfits}
-use Rattle.laws.specs.Runs.{Stored, stored-none, stored-more, stored-all}
+use Rattle.laws.proofs.Arrays.{elem-sfits}
+use Rattle.laws.proofs.Runs.{Stored, stored-none, stored-more, stored-all}
 use Rattle.image.specs.Entries.{coefficientBytes}
 use Rattle.image.proofs.Entries.{coefficient}
 use Rattle.image.proofs.write.coefficients.Statement.{statement}

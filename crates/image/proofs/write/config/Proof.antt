@@ -1,6 +1,6 @@
 -- `image::write::config` meets its contract: the sections stored one after another are the image stored.
 use borrow.Author.Needs.{needs}
-use Rattle.laws.specs.Arrays.{length-mapped}
+use Rattle.laws.proofs.Arrays.{length-mapped}
 use Rattle.image.specs.Image.{Counted}
 use Rattle.image.proofs.Stores.{sets-image}
 use Rattle.image.proofs.write.config.Statement.{statement}

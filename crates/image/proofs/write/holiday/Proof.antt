@@ -4,7 +4,7 @@ use native.Mathlib.Omega.{arith}
 use borrow.Author.Needs.{needs}
 use lib.ListN.{length, length-set}
 use lib.Seq.{length-sets}
-use Rattle.laws.specs.Runs.{next}
+use Rattle.laws.proofs.Runs.{next}
 use Rattle.image.specs.Entries.{holidayBytes}
 use Rattle.image.proofs.write.holiday.Statement.{statement}
 use Rattle.image.proofs.write.holiday.Tie as tie

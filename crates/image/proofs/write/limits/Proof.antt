@@ -1,8 +1,8 @@
 -- `image::write::limits` meets its contract. The loop's invariant: the entries before i are stored.
 use Prim.Native.Nat.{_-_}
 use borrow.Author.Needs.{needs}
-use Rattle.laws.specs.Codec.{number}
-use Rattle.laws.specs.Runs.{Stored, stored-none, stored-more, stored-all}
+use Rattle.laws.proofs.Codec.{number}
+use Rattle.laws.proofs.Runs.{Stored, stored-none, stored-more, stored-all}
 use Rattle.laws.specs.Bytes.{bytesOf}
 use Rattle.image.proofs.write.limits.Statement.{statement}
 use Rattle.image.proofs.write.limits.Tie as tie

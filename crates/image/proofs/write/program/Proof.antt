@@ -1,6 +1,6 @@
 -- `image::write::program` meets its contract: the sections stored one after another are the program stored.
 use borrow.Author.Needs.{needs}
-use Rattle.laws.specs.Arrays.{length-mapped}
+use Rattle.laws.proofs.Arrays.{length-mapped}
 use Rattle.image.specs.Image.{CountedProgram}
 use Rattle.image.proofs.Stores.{sets-program}
 use Rattle.image.proofs.write.program.Statement.{statement}

@@ -1,7 +1,7 @@
 -- `image::write::rules` meets its contract. The loop's invariant: the entries before i are stored.
 use Prim.Native.Nat.{_-_}
 use borrow.Author.Needs.{needs}
-use Rattle.laws.specs.Runs.{Stored, stored-none, stored-more, stored-all}
+use Rattle.laws.proofs.Runs.{Stored, stored-none, stored-more, stored-all}
 use Rattle.image.specs.Entries.{ruleBytes}
 use Rattle.settings.specs.Rules.{noRule}
 use Rattle.image.proofs.Entries.{rule}

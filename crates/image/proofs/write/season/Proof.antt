@@ -2,7 +2,7 @@
 use native.Mathlib.Omega.{arith}
 use borrow.Author.Needs.{needs}
 use lib.ListN.{length-set}
-use Rattle.laws.specs.Runs.{next}
+use Rattle.laws.proofs.Runs.{next}
 use Rattle.image.specs.Entries.{seasonBytes}
 use Rattle.image.proofs.write.season.Statement.{statement}
 use Rattle.image.proofs.write.season.Tie as tie

@@ -8,7 +8,7 @@ use borrow.Author.Needs.{needs}
 use borrow.Author.Tests.{lt-ltb, leb-true, not-true, not-false}
 use lib.Dec.{ltb}
 use lib.ListN.{length, getD, drop}
-use Rattle.laws.specs.Tests.{by-test, and-left}
+use Rattle.laws.proofs.Tests.{by-test, and-left}
 use Rattle.lines.specs.Numbers.{isDigit, isNumber, valueFrom, numberOf, noNumber}
 use Rattle.lines.proofs.Digits.{goesOn, too-large, on-turn, value-turn, on-letter, on-end, value-end}
 use Rattle.lines.proofs.numbers.read_number.Statement.{statement}

@@ -7,12 +7,11 @@ use Rattle.recorder.proofs.Recorder.sample.Statement.{statement}
 use Rattle.recorder.proofs.Recorder.sample.Tie as tie
 
 returns : tie.Need-returns
-returns c = ap (beside _) (one-sample _ _ _ _ (c .before .take .ensures))
+returns c = ap (beside _) (one-sample _ _ _ _ (c .before .one .ensures))
 
 pub sample-spec : {M : Type 1} → statement M
 sample-spec =
     tie.close
     (tie.spec
-    (λ c. search needs)
     (λ c κs. search needs)
     returns)

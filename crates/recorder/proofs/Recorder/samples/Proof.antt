@@ -6,7 +6,7 @@ use Rattle.recorder.proofs.Recorder.samples.Statement.{statement}
 use Rattle.recorder.proofs.Recorder.samples.Tie as tie
 
 returns : tie.Need-returns
-returns c = ap (runBeside _) (c .before .take .ensures)
+returns c = ap (runBeside _) (c .before .run .ensures)
 
 pub samples-spec : {M : Type 1} → statement M
 samples-spec =

@@ -3,8 +3,8 @@ use mathlib.Core.Path.{_≡_, refl}
 use Prim.Native.Nat.{_-_, _≤_}
 use native.Mathlib.Omega.{arith}
 use borrow.Author.Needs.{needs}
-use Rattle.laws.specs.Arrays.{length-mapped}
-use Rattle.laws.specs.Tables.{fillTo, fill-none, fill-more, fill-done}
+use Rattle.laws.proofs.Arrays.{length-mapped}
+use Rattle.laws.proofs.Tables.{fillTo, fill-none, fill-more, fill-done}
 use Rattle.recorder.specs.Clock.{closedBillAt, resetOf}
 use Rattle.recorder.proofs.calls.reset.Statement.{statement}
 use Rattle.recorder.proofs.calls.reset.Tie as tie

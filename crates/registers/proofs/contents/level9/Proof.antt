@@ -8,7 +8,7 @@ use lib.ListN.{getD}
 use mir.Syntax.{w64}
 use mir.Val.{SFits, toZ, ofZ}
 use mir.Facts.{toZ-ofZ}
-use Rattle.laws.specs.Arrays.{elem-sfits}
+use Rattle.laws.proofs.Arrays.{elem-sfits}
 use Rattle.laws.specs.Bytes.{bytesOf}
 use Rattle.registers.specs.Contents.{level9Bytes}
 use Rattle.registers.proofs.contents.level9.Statement.{statement}

@@ -15,12 +15,15 @@ use lib.ListN.{getD}
 use mir.Syntax.{w8, w32, w64}
 use mir.Val.{Fits, toZ, ofZ}
 use mir.Facts.{toZ-ofZ}
-use Rattle.laws.specs.Tests.{by-test}
-use Rattle.laws.specs.Keys.{in-range}
-use Rattle.laws.specs.Tables.{table, table-at}
-use Rattle.laws.specs.Masks.{maskOf, mask-cong, mask-none, mask-below, mask-turn, mask-done}
-use Rattle.laws.specs.Counts.{ones-mask, ones-mask-le, mask-or}
-use Rattle.laws.specs.SignedTotal.{abs-fits, totalℤ, totalℤ-none, totalℤ-turn, totalℤ-done}
+use Rattle.laws.proofs.Tests.{by-test}
+use Rattle.laws.proofs.Keys.{in-range}
+use Rattle.laws.specs.Tables.{table}
+use Rattle.laws.proofs.Tables.{table-at}
+use Rattle.laws.specs.Masks.{maskOf}
+use Rattle.laws.proofs.Masks.{mask-cong, mask-none, mask-below, mask-turn, mask-done}
+use Rattle.laws.proofs.Counts.{ones-mask, ones-mask-le, mask-or}
+use Rattle.laws.specs.SignedTotal.{totalℤ}
+use Rattle.laws.proofs.SignedTotal.{abs-fits, totalℤ-none, totalℤ-turn, totalℤ-done}
 use Rattle.sampling.specs.declared.Meter.{Meter}
 use Rattle.registers.specs.Fleet.{meterAt, meterClass, classAt, hasClass, hasAny, awakeValue, awakeSum, fleetOf}
 use Rattle.registers.proofs.fleet.fleet_of.Statement.{statement}

@@ -7,7 +7,7 @@ use lib.Signed.{natAbs-le}
 use mir.Syntax.{w32, w64}
 use mir.Val.{SFits, toZ, ofZ}
 use mir.Facts.{toZ-ofZ, sfits-widen}
-use Rattle.laws.specs.SignedTotal.{abs-add, abs-fits}
+use Rattle.laws.proofs.SignedTotal.{abs-add, abs-fits}
 use Rattle.registers.proofs.fleet.plus_if.Statement.{statement}
 use Rattle.registers.proofs.fleet.plus_if.Tie as tie
 

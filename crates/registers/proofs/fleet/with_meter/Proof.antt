@@ -3,7 +3,7 @@ use native.Mathlib.Nat.{one-mul, zero-mul, zero-add, pow-suc}
 use native.Mathlib.Omega.{arith}
 use borrow.Author.Needs.{needs}
 use lib.Pow.{pow-mono}
-use Rattle.laws.specs.Masks.{shl-is}
+use Rattle.laws.proofs.Masks.{shl-is}
 use Rattle.registers.proofs.fleet.with_meter.Statement.{statement}
 use Rattle.registers.proofs.fleet.with_meter.Tie as tie
 

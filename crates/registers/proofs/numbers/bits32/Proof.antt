@@ -5,7 +5,7 @@ use lib.IntN.{pos}
 use mir.Syntax.{w32}
 use mir.Val.{toZ, ofZ}
 use mir.Facts.{toZ-ofZ, fits-ofZ}
-use Rattle.laws.specs.Signed.{Negative, negative, natural}
+use Rattle.laws.proofs.Signed.{Negative, negative, natural}
 use Rattle.registers.proofs.numbers.bits32.Statement.{statement}
 use Rattle.registers.proofs.numbers.bits32.Tie as tie
 

@@ -5,7 +5,7 @@ use lib.IntN.{pos}
 use mir.Syntax.{w64}
 use mir.Val.{toZ, ofZ}
 use mir.Facts.{toZ-ofZ, fits-ofZ}
-use Rattle.laws.specs.Signed.{Negative, negative, natural}
+use Rattle.laws.proofs.Signed.{Negative, negative, natural}
 use Rattle.registers.proofs.numbers.bits64.Statement.{statement}
 use Rattle.registers.proofs.numbers.bits64.Tie as tie
 

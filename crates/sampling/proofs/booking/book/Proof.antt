@@ -1,21 +1,36 @@
--- `sampling::booking::book` meets its contract: without units the amounts stay as they are, with some they are what the calls ensure.
-use mathlib.Core.Path.{sym, _∙_}
+-- `sampling::booking::book` meets its contract: without units nothing is booked, with some the sums are those of the lines that end.
+use mathlib.Core.Path.{_≡_, refl, sym, ap, _∙_}
+use mathlib.Core.Bool.{true, false}
 use borrow.Author.Needs.{needs}
-use borrow.Author.Tests.{not-true}
-use Rattle.laws.specs.Arrays.{length-mapped}
-use Rattle.sampling.specs.Kept.{amountsAt}
-use Rattle.sampling.proofs.Books.{none-some, same-amounts}
+use denote.Ref.{now}
+use Rattle.counting.specs.Bills.{sumsOf}
+use Rattle.counting.specs.ByMask.{someFull, amountsBooked}
+use Rattle.counting.proofs.Parts.{own-units}
+use Rattle.sampling.proofs.Books.{none-full, same-amounts}
 use Rattle.sampling.proofs.booking.book.Statement.{statement}
 use Rattle.sampling.proofs.booking.book.Tie as tie
 
 returns : tie.Need-returns
 returns c =
-    let none = none-some (c .before .before .args .units) (sym (c .before .some-units .ensures) ∙ not-true _ (c .if1 .taken)) in
-    (same-amounts (c .before .before .args .config) (c .before .before .args .clock) (c .before .before .args .units) (c .before .before .args .amounts) (search (needs, length-mapped)) none, c .before .before .pre)
+    let a = c .before .args in
+    let none = c .before .pre .1 .none (c .if1 .taken) in
+    (sym (none-full (a .config .registers) (now (a .amounts)) (a .fed) (a .config .sums) (a .units) none), sym (same-amounts (a .config .registers) (now (a .amounts)) (a .fed) (a .config .sums) (a .units) none (c .before .pre .0)))
+
+-- the sums are those of all lines
+sums-are : (c : tie.After-sums-units) → c .sums-units .result ≡ sumsOf (c .before .before .before .before .args .config .sums) (c .before .before .before .before .args .units)
+sums-are c = c .sums-units .ensures ∙ ap (sumsOf (c .before .before .before .before .args .config .sums)) (own-units (c .before .before .before .before .args .units) (c .before .before .before .before .args .ending) (search needs) (c .before .before .before .before .pre .1 .others))
 
 returns-2 : tie.Need-returns-2
-unfolding amountsAt
-returns-2 c = (rw (c .book-amounts .ensures, c .before .sums-units .ensures, c .before .before .tariffs-at .ensures), λ e. c .before .before .tariffs-at .ensures)
+unfolding amountsBooked
+returns-2 c =
+    let e = sym (c .if2 .taken) ∙ c .before .some-full .ensures ∙ ap (someFull _ _ _) (sums-are (c .before .before .before .before)) in
+    (e, rw (← e))
+
+add-due-requires : tie.Need-add-due-requires
+add-due-requires c κs = (c .before .before .before .before .before .before .before .before .before .before .pre .0, sym (c .before .before .before .some-full .ensures) ∙ c .before .before .if2 .left)
+
+returns-3 : tie.Need-returns-3
+returns-3 c = (sym (c .before .before .before .if2 .left) ∙ c .before .before .before .before .some-full .ensures ∙ ap (someFull _ _ _) (sums-are (c .before .before .before .before .before .before .before)), c .add-due .ensures ∙ ap (amountsBooked _ _ _) (sums-are (c .before .before .before .before .before .before .before)))
 
 pub book-spec : {M : Type 1} → statement M
-book-spec = tie.close (tie.spec (λ c κs. search needs) returns (λ c κs. search needs) (λ c κs. search needs) (λ c κs. search needs) returns-2)
+book-spec = tie.close (tie.spec returns (λ c κs. search needs) (λ c κs. search needs) returns-2 add-due-requires returns-3)

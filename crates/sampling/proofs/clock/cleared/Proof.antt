@@ -3,8 +3,8 @@ use mathlib.Core.Path.{_≡_, refl}
 use Prim.Native.Nat.{_-_, _≤_}
 use native.Mathlib.Omega.{arith}
 use borrow.Author.Needs.{needs}
-use Rattle.laws.specs.Arrays.{length-mapped}
-use Rattle.laws.specs.Tables.{fillTo, fill-none, fill-more, fill-done}
+use Rattle.laws.proofs.Arrays.{length-mapped}
+use Rattle.laws.proofs.Tables.{fillTo, fill-none, fill-more, fill-done}
 use Rattle.sampling.specs.Periods.{cleared, clearedAt, clearedLines}
 use Rattle.sampling.proofs.clock.cleared.Statement.{statement}
 use Rattle.sampling.proofs.clock.cleared.Tie as tie

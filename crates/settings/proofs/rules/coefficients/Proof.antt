@@ -8,8 +8,8 @@ use lib.IntN.{pos}
 use mir.Syntax.{w8}
 use mir.Val.{SFits}
 use mir.Facts.{toZ-ofZ}
-use Rattle.laws.specs.Arrays.{elem-sfits}
-use Rattle.laws.specs.Broken.{Kept, kept-none, kept-more, kept-broken, kept-all}
+use Rattle.laws.proofs.Arrays.{elem-sfits}
+use Rattle.laws.proofs.Broken.{Kept, kept-none, kept-more, kept-broken, kept-all}
 use Rattle.settings.specs.Rules.{coefficientGood}
 use Rattle.settings.proofs.rules.coefficients.Statement.{statement}
 use Rattle.settings.proofs.rules.coefficients.Tie as tie

@@ -4,7 +4,8 @@ use Prim.Native.Nat.{_-_, _≤_}
 use native.Mathlib.Omega.{arith}
 use borrow.Author.Tests.{lt-ltb, eq-eqb, ne-eqb}
 use borrow.Author.Needs.{needs}
-use Rattle.laws.specs.Masks.{maskOf, mask-none, mask-set, mask-fits, mask-clear, mask-done}
+use Rattle.laws.specs.Masks.{maskOf}
+use Rattle.laws.proofs.Masks.{mask-none, mask-set, mask-fits, mask-clear, mask-done}
 use Rattle.settings.specs.Rules.{fittedIn}
 use Rattle.settings.proofs.rules.fitted.Statement.{statement}
 use Rattle.settings.proofs.rules.fitted.Tie as tie

@@ -4,7 +4,7 @@ use mathlib.Core.Bool.{true}
 use mathlib.Core.List.{List, [], _∷_}
 use Prim.Native.Nat.{ℕ}
 use native.Mathlib.Omega.{arith}
-use Rattle.laws.specs.Keys.{at-keys, in-range, none-each, not-key}
+use Rattle.laws.proofs.Keys.{at-keys, in-range, none-each, not-key}
 use Rattle.settings.specs.Rules.{periods, periodGood}
 use Rattle.settings.proofs.rules.period.Statement.{statement}
 use Rattle.settings.proofs.rules.period.Tie as tie

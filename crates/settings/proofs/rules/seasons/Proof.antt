@@ -4,7 +4,7 @@ use Prim.Native.Nat.{ℕ, _-_}
 use borrow.Author.Needs.{needs}
 use borrow.Author.Tests.{not-true, not-false}
 use lib.ListN.{getD}
-use Rattle.laws.specs.Broken.{Kept, kept-none, kept-more, kept-broken, kept-all}
+use Rattle.laws.proofs.Broken.{Kept, kept-none, kept-more, kept-broken, kept-all}
 use Rattle.settings.specs.Rules.{seasonGood, noSeason}
 use Rattle.settings.proofs.rules.seasons.Statement.{statement}
 use Rattle.settings.proofs.rules.seasons.Tie as tie

@@ -1,6 +1,6 @@
 -- `settings::rules::sum` meets its contract: no bit stands outside the mask.
 use native.Mathlib.Omega.{arith}
-use Rattle.laws.specs.Masks.{covered}
+use Rattle.laws.proofs.Masks.{covered}
 use Rattle.settings.specs.Rules.{sumGood}
 use Rattle.settings.proofs.rules.sum.Statement.{statement}
 use Rattle.settings.proofs.rules.sum.Tie as tie

@@ -1,13 +1,13 @@
 -- A bit of `a & b`, `a | b` and `a ^ b`, as a test.
-use mathlib.Core.Path.{_≡_, refl, _∙_}
+use mathlib.Core.Path.{_≡_}
 use mathlib.Core.Bool.{Bool, true, false, not, _&&_, _||_}
 use mathlib.Core.Logic.{_⊎_, inl, inr, ⊎-elim}
-use Prim.Native.Nat.{ℕ, _+_, _*_, _/_, _%_, _^_, _<_, min, max}
+use Prim.Native.Nat.{ℕ, _+_, _*_, _/_, _%_, _^_, _<_}
 use native.Mathlib.Omega.{arith}
 use lib.Dec.{eqb}
-use lib.Bits.{bitAnd, bitOr, bitXor, differ, and-shr, or-shr, xor-shr, and-step, or-step, xor-step}
+use lib.Bits.{bitAnd, bitOr, bitXor, and-shr, or-shr, xor-shr, and-step, or-step, xor-step, and-le-l, and-le-r, or-add-and}
 use borrow.Author.Tests.{eqb-true, eqb-false}
-use Rattle.laws.specs.Tests.{by-test}
+use Rattle.laws.proofs.Tests.{by-test}
 use Rattle.laws.specs.Masks.{bitAt}
 
 -- a last digit is 0 or 1
@@ -55,3 +55,7 @@ bit-xor a b i =
     (⊎-elim (λ p. ⊎-elim (λ q. rw (p, q, last _ 0 (omega arith))) (λ q. rw (p, q, last _ 1 (omega arith))) (digit y))
     (λ p. ⊎-elim (λ q. rw (p, q, last _ 1 (omega arith))) (λ q. rw (p, q, last _ 0 (omega arith))) (digit y))
     (digit x))
+
+-- where the code's `|` of two numbers is 0, both are
+pub or-none : (a b : ℕ) → bitOr a b ≡ 0 → (a ≡ 0) × (b ≡ 0)
+or-none a b e = (omega (arith, or-add-and a b, and-le-r a b), omega (arith, or-add-and a b, and-le-l a b))

@@ -11,7 +11,7 @@ use borrow.Author.Tests.{eqb-true, ne-eqb}
 use mir.Val.{hasKey}
 use types.Run.{OneOf}
 use Rattle.laws.specs.Each.{Each}
-use Rattle.laws.specs.Tests.{by-test, or-right}
+use Rattle.laws.proofs.Tests.{by-test, or-right}
 
 -- what holds of each key holds of the number that is one of them
 pub at-keys : (P : ℕ → Type 0) (ks : List ℕ) (x : ℕ) → Each P ks → OneOf ks x → P x

@@ -1,0 +1,20 @@
+-- The laws of these definitions, and of lists, numbers and bits: each stated once over its width, index or type.
+pub mod If
+pub mod Tests
+pub mod First
+pub mod Broken
+pub mod Any
+pub mod Total
+pub mod SignedTotal
+pub mod Spans
+pub mod Masks
+pub mod Counts
+pub mod BitTests
+pub mod Tables
+pub mod Keys
+pub mod Bytes
+pub mod Signed
+pub mod Runs
+pub mod Codec
+pub mod Arrays
+pub mod Unique

@@ -1,0 +1,67 @@
+-- A run of samples that ends with the first that brings a closing. The closing stands between two such runs: it is their caller's.
+use mathlib.Core.Bool.{Bool, true, false, _&&_}
+use mathlib.Core.List.{List, [], _∷_}
+use Prim.Native.Nat.{ℕ, suc, _+_}
+use lib.Dec.{leb, eqb}
+use Rattle.laws.specs.If.{if_then_else_}
+use Rattle.laws.specs.Answers.{Answer, given, refused}
+use Rattle.settings.specs.declared.Config.{Config}
+use Rattle.sampling.specs.Periods.{multiple, clearedLines, closedAs, stateOf}
+use Rattle.sampling.specs.Samples.{bookingOn, putIn, clockEnd, numberOf}
+use Rattle.sampling.specs.declared.State.{State}
+use Rattle.sampling.specs.declared.samples.Stretch.{Stretch}
+
+-- one more sample of the second; after the hundredth the clock steps, and the period stays open
+unfoldable pub countedOpen : State → State
+countedOpen s =
+    if leb 99 (s .samples) then putIn s (s .clock + 1) 0 (s .lines) (s .bills) else putIn s (s .clock) (s .samples + 1) (s .lines) (s .bills)
+
+-- a sample, but for the closing that it may bring
+unfoldable pub sampleOpen : Config → State → ℕ → Answer State
+sampleOpen c s bits =
+    let b = bookingOn c s bits in
+    if clockEnd s then refused 5 0
+    else if b .full then refused 6 0
+    else given (countedOpen (putIn s (s .clock) (s .samples) (b .lines) (b .bills)))
+
+-- after a sample a period is to close: the clock has stepped, onto a multiple
+abbrev pub closing : Config → State → Bool
+closing c s = eqb (s .samples) 0 && multiple (c .period) (s .clock)
+
+-- the period of a state closes with its present second, and the next begins
+unfoldable pub closedOf : Config → State → State
+closedOf c s =
+    record {
+      clock = s .clock;
+      samples = s .samples;
+      first = s .clock;
+      lines = clearedLines (s .lines);
+      bills = s .bills;
+      meters = s .meters;
+      closed = closedAs c (stateOf (c .period) (s .first)) (s .clock) (s .lines);
+    }
+
+-- a run to the first closing: how many samples were taken, the number of the refusal that ended it or 0, whether a period is to close, and the state
+pub record Stretched : Type 0 where
+  pub taken : ℕ
+  pub number : ℕ
+  pub closes : Bool
+  pub state : State
+
+-- one sample more in front
+abbrev pub oneMoreTaken : Stretched → Stretched
+oneMoreTaken t = record { taken = suc (t .taken); number = t .number; closes = t .closes; state = t .state }
+
+-- a run goes on after a sample that was taken and brings no closing
+abbrev pub stretchOn : Config → State → Answer State → (State → Stretched) → Stretched
+stretchOn c s (given next) rest = if closing c next then record { taken = 1; number = 0; closes = true; state = next } else oneMoreTaken (rest next)
+stretchOn c s (refused n offset) rest = record { taken = 0; number = n; closes = false; state = s }
+
+-- samples one after another, up to the first refusal or the first closing
+unfoldable pub stretchOf : Config → State → List ℕ → Stretched
+stretchOf c s [] = record { taken = 0; number = 0; closes = false; state = s }
+stretchOf c s (bits ∷ more) = stretchOn c s (sampleOpen c s bits) (λ next. stretchOf c next more)
+
+-- what the code's answer to such a run says
+abbrev pub stretchSaid : Stretch → Stretched
+stretchSaid t = record { taken = t .taken; number = numberOf (t .answer); closes = t .closes; state = t .state }

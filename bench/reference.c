@@ -321,9 +321,15 @@ static bool book(struct recorder *r, uint32_t active) {
     return true;
 }
 
-/* How many samples from the first on have no line active. */
+/* How many samples from the first on have no line active: eight at once, while none of them has, and then one by one. */
 static size_t quiet(const uint16_t *bits, size_t n, uint32_t s1r, uint32_t fitted) {
     size_t k = 0;
+    while (n - k >= 8) {
+        uint32_t some = 0;
+        for (size_t j = 0; j < 8; j++) some |= (bits[k + j] ^ s1r) & fitted;
+        if (some != 0) break;
+        k += 8;
+    }
     while (k < n && ((bits[k] ^ s1r) & fitted) == 0) k++;
     return k;
 }

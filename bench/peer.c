@@ -55,7 +55,7 @@ static void singles(uint32_t rounds) {
     for (uint32_t i = 0; i < rounds; i++)
         for (size_t k = 0; k < SAMPLES; k++) {
             size_t taken;
-            sum = mixed(sum, reference_samples(&r, bits + k, 1, &taken));
+            sum = mixed(sum, peer_samples(&r, bits + k, 1, &taken));
         }
     printf("%u\n", sum);
     write_registers(&r);

@@ -25,12 +25,12 @@ use Rattle.tariff.proofs.Laws.{next-same}
 use Rattle.sampling.specs.Kept.{InForce, agedTo}
 use Rattle.sampling.specs.declared.booking.Tariffs.{Tariffs}
 use Rattle.sampling.specs.Samples.{Booking, bookingOf, activeAt, activeLines, putIn}
-use Rattle.sampling.specs.Stretches.{countedOpen, sampleOpen, closing, stretchOf}
+use Rattle.sampling.specs.Laps.{countedOpen, sampleOpen, closing, lapOf}
 use Rattle.counting.specs.declared.Line.{Line}
 use Rattle.counting.specs.declared.Bill.{Bill}
 use Rattle.sampling.specs.declared.State.{State}
 use Rattle.sampling.proofs.Books.{no-impulse}
-use Rattle.sampling.proofs.Stretches.{after, goes-on}
+use Rattle.sampling.proofs.Laps.{after, goes-on}
 
 -- the test of an active line, by the two masks of kinds
 by-kind : (kind : ℕ) (b : Bool) → (either b (eqb kind 2) && (eqb kind 1 || eqb kind 2)) ≡ active kind b
@@ -199,9 +199,9 @@ not-at-end clock count e h l = let n = eqb-false clock 4_294_967_295 (sym (and-t
 
 -- samples with no line active and no run to end only count
 pub idle-on : (c : Config) (start rest : State) (clock count : ℕ) (lines : List Line) (bills : List Bill) (bits : List ℕ) (k n : ℕ)
-    → stretchOf c start bits ≡ after k (stretchOf c (putIn rest clock count lines bills) (drop k bits))
+    → lapOf c start bits ≡ after k (lapOf c (putIn rest clock count lines bills) (drop k bits))
     → k + n ≤ length bits → count + n ≤ 99 → ((j : ℕ) → j < n → 0 ≡ activeLines (c .inputs) (getD bits (k + j) 0)) → runningLines lines ≡ 0 → length lines ≡ 16 → length bills ≡ 16
-    → stretchOf c start bits ≡ after (k + n) (stretchOf c (putIn rest clock (count + n) lines bills) (drop (k + n) bits))
+    → lapOf c start bits ≡ after (k + n) (lapOf c (putIn rest clock (count + n) lines bills) (drop (k + n) bits))
 idle-on c start rest clock count lines bills bits k zero so-far h room idle none size sizes = rw (add-zero k, add-zero count) so-far
 idle-on c start rest clock count lines bills bits k (suc n) so-far h room idle none size sizes =
     let before = idle-on c start rest clock count lines bills bits k n so-far (omega arith) (omega arith) (λ j l. idle j (omega arith)) none size sizes in

@@ -6,7 +6,7 @@ use Rattle.laws.specs.If.{if_then_else_}
 use Rattle.laws.specs.Unique.{OneResult}
 use Rattle.laws.proofs.Unique.{told-apart}
 use Rattle.sampling.specs.Samples.{numberOf, Run, said}
-use Rattle.sampling.specs.Stretches.{Stretched}
+use Rattle.sampling.specs.Laps.{LapReply}
 use Rattle.sampling.specs.declared.samples.Taking.{Taking}
 use Rattle.sampling.specs.declared.SampleAnswer.{SampleAnswer}
 use Rattle.sampling.specs.declared.SampleAnswer.the-variants.{Taken, ClockEnd, Full}
@@ -41,10 +41,10 @@ close κs a x y e f p q = p ∙ sym q
 pub take-once : OneResult take-reads.Post
 take-once κs a x y e f p q =
     let s = p ∙ sym q in
-    let state = ap (λ (r : Stretched). r .state) s in
-    let taken = ap (λ (r : Stretched). r .taken) s in
-    let answer = sample-apart (x .answer) (y .answer) (ap (λ (r : Stretched). r .number) s) in
-    let closes = ap (λ (r : Stretched). r .closes) s in
+    let state = ap (λ (r : LapReply). r .state) s in
+    let taken = ap (λ (r : LapReply). r .taken) s in
+    let answer = sample-apart (x .answer) (y .answer) (ap (λ (r : LapReply). r .number) s) in
+    let closes = ap (λ (r : LapReply). r .closes) s in
     (λ i. record { state = state i; taken = taken i; answer = answer i; closes = closes i })
 
 -- two answers to a run that say the same are the same

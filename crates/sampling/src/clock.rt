@@ -6,7 +6,7 @@ use counting::levels::level9;
 use settings::Config;
 ghost use mathlib.Core.Path.{_≡_};
 ghost use Rattle.sampling.specs.Periods.{multiple, clearedLines, stateOf, closedAs};
-ghost use Rattle.sampling.specs.Stretches.{closedOf};
+ghost use Rattle.sampling.specs.Laps.{closedHere};
 
 // Whether a time is a multiple of the period's seconds. No image has a period of 0 minutes; one that had would have no multiple.
 pub(crate) fn is_multiple(period: u8, time: u32) -> bool
@@ -60,7 +60,7 @@ fn step_state(period: u8, first: u32) -> u8
 
 // The closing that the step brings: the period closes at the clock's new second, and the next begins with it.
 pub fn close(config: Config, state: State) -> State
-    ensures { λ r. ⌜ r ≡ closedOf config state ⌝ }
+    ensures { λ r. ⌜ r ≡ closedHere config state ⌝ }
 {
     let lines = state.lines;
     let closed = close_period(

@@ -22,7 +22,7 @@ ghost use Prim.Native.Nat.{_+_, _-_, _≤_};
 ghost use mathlib.Core.List.{[], _∷_};
 ghost use lib.ListN.{length};
 ghost use Rattle.sampling.specs.Samples.{putIn, samplesOf, said};
-ghost use Rattle.sampling.specs.Stretches.{stretchOf, stretchSaid};
+ghost use Rattle.sampling.specs.Laps.{lapOf, lapSaid};
 ghost use Rattle.sampling.specs.Kept.{Idle, restoredLines};
 
 // What a run came to: the state, how many samples were taken, and the refusal that ended it, if there was one.
@@ -33,7 +33,7 @@ pub struct Taking {
 }
 
 // A run to the first closing: also whether it ended with one, which is still to be done.
-pub struct Stretch {
+pub struct Lap {
     pub state: State,
     pub taken: usize,
     pub answer: SampleAnswer,
@@ -122,8 +122,8 @@ fn idle_samples(bits: &[u16], k: usize, room: usize, fitted: u16, s1r: u16) -> u
 
 // The samples one after another, up to the first refusal or the first that steps the clock onto a multiple of the period: the closing is the caller's. Only lines
 // whose runs end are judged, and only those that are active have their runs advanced, in place.
-pub fn take(config: Config, start: State, bits: &[u16]) -> Stretch
-    ensures { λ r. ⌜ stretchSaid r ≡ stretchOf config start (now (bits .entry)) ⌝ }
+pub fn take(config: Config, start: State, bits: &[u16]) -> Lap
+    ensures { λ r. ⌜ lapSaid r ≡ lapOf config start (now (bits .entry)) ⌝ }
 {
     let inputs = config.inputs;
     let s1r = kind_mask(inputs, 2);
@@ -211,7 +211,7 @@ pub fn take(config: Config, start: State, bits: &[u16]) -> Stretch
         tariffs = aged(tariffs, clock);
     }
     let state = put_in(start, clock, count, lines, put_amounts(bills, amounts));
-    Stretch {
+    Lap {
         state,
         taken: k,
         answer,
@@ -219,18 +219,18 @@ pub fn take(config: Config, start: State, bits: &[u16]) -> Stretch
     }
 }
 
-// The samples one after another, up to the first refusal: stretch after stretch, with the closings between them.
+// The samples one after another, up to the first refusal: lap after lap, with the closings between them.
 pub fn run(config: Config, start: State, bits: &[u16]) -> Taking
     ensures { λ r. ⌜ said r ≡ samplesOf config start (now (bits .entry)) ⌝ }
 {
     let mut now = start;
     let mut k: usize = 0;
     loop {
-        let stretch = take(config, now, &bits[k..]);
-        let state = stretch.state;
-        let answer = stretch.answer;
-        k += stretch.taken;
-        if !stretch.closes {
+        let lap = take(config, now, &bits[k..]);
+        let state = lap.state;
+        let answer = lap.answer;
+        k += lap.taken;
+        if !lap.closes {
             return Taking {
                 state,
                 taken: k,
@@ -246,19 +246,19 @@ pub fn one(config: Config, start: State, bits: u16) -> Taking
     ensures { λ r. ⌜ said r ≡ samplesOf config start (bits ∷ []) ⌝ }
 {
     let alone = [bits];
-    let stretch = take(config, start, &alone);
-    let state = stretch.state;
-    let answer = stretch.answer;
-    if stretch.closes {
+    let lap = take(config, start, &alone);
+    let state = lap.state;
+    let answer = lap.answer;
+    if lap.closes {
         return Taking {
             state: close(config, state),
-            taken: stretch.taken,
+            taken: lap.taken,
             answer,
         };
     }
     Taking {
         state,
-        taken: stretch.taken,
+        taken: lap.taken,
         answer,
     }
 }

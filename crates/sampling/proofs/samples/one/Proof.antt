@@ -1,7 +1,7 @@
 -- `sampling::samples::one` meets its contract: one sample, and the closing if it brings one.
 use mathlib.Core.Path.{sym}
 use borrow.Author.Needs.{needs}
-use Rattle.sampling.proofs.Stretches.{one-closes, run-ends}
+use Rattle.sampling.proofs.Laps.{one-closes, run-ends}
 use Rattle.sampling.proofs.samples.one.Statement.{statement}
 use Rattle.sampling.proofs.samples.one.Tie as tie
 

@@ -8,8 +8,8 @@ use lib.Seq.{take-all, drop-drop}
 use borrow.Author.Needs.{needs}
 use borrow.Author.Tests.{not-true, not-false}
 use Rattle.sampling.specs.Samples.{samplesOf}
-use Rattle.sampling.specs.Stretches.{stretchOf, stretchSaid}
-use Rattle.sampling.proofs.Stretches.{later, later-later, run-closes, run-ends, taken-within, closes-some}
+use Rattle.sampling.specs.Laps.{lapOf, lapSaid}
+use Rattle.sampling.proofs.Laps.{later, later-later, run-closes, run-ends, taken-within, closes-some}
 use Rattle.sampling.proofs.samples.run.Statement.{statement}
 use Rattle.sampling.proofs.samples.run.Tie as tie
 
@@ -23,19 +23,19 @@ loop-holds : tie.Need-loop-holds Inv-loop μ-loop
 loop-holds c = (search needs, rw zero-add)
 
 -- what the call took is a run to the first closing of the samples that are left
-stretch-is : (c : tie.After-take Inv-loop μ-loop) → let a = c .before .before .before .before .args in let l = c .before .before .loop in stretchOf (a .config) (l .now) (drop (l .k) (a .bits .now)) ≡ stretchSaid (c .take .result)
-stretch-is c =
+lap-is : (c : tie.After-take Inv-loop μ-loop) → let a = c .before .before .before .before .args in let l = c .before .before .loop in lapOf (a .config) (l .now) (drop (l .k) (a .bits .now)) ≡ lapSaid (c .take .result)
+lap-is c =
     let a = c .before .before .before .before .args in
     let l = c .before .before .loop in
     let whole = take-all (length (a .bits .now) - l .k) (drop (l .k) (a .bits .now)) (omega (arith, length-drop (l .k) (a .bits .now))) in
-    ap (stretchOf (a .config) (l .now)) (sym whole) ∙ sym (c .take .ensures)
+    ap (lapOf (a .config) (l .now)) (sym whole) ∙ sym (c .take .ensures)
 
 -- it took no more than there are
 within : (c : tie.After-take Inv-loop μ-loop) → c .before .before .loop .k + c .take .result .taken ≤ length (c .before .before .before .before .args .bits .now)
 within c =
     let a = c .before .before .before .before .args in
     let l = c .before .before .loop in
-    let most = rw (stretch-is c) at (taken-within (a .config) (l .now) (drop (l .k) (a .bits .now))) in
+    let most = rw (lap-is c) at (taken-within (a .config) (l .now) (drop (l .k) (a .bits .now))) in
     omega (arith, most, length-drop (l .k) (a .bits .now), l .inv .0)
 
 add-k : tie.Need-add-k Inv-loop μ-loop
@@ -45,22 +45,22 @@ returns : tie.Need-returns Inv-loop μ-loop
 returns c =
     let a = c .before .before .before .before .before .before .before .before .args in
     let l = c .before .before .before .before .before .before .loop in
-    sym (l .inv .1 ∙ ap (later (l .k)) (run-ends (a .config) (l .now) (drop (l .k) (a .bits .now)) _ (stretch-is (c .before .before .before .before)) (not-true _ (c .if1 .taken))))
+    sym (l .inv .1 ∙ ap (later (l .k)) (run-ends (a .config) (l .now) (drop (l .k) (a .bits .now)) _ (lap-is (c .before .before .before .before)) (not-true _ (c .if1 .taken))))
 
 loop-less : tie.Need-loop-less Inv-loop μ-loop
 loop-less c =
     let a = c .before .before .before .before .before .before .before .before .before .args in
     let l = c .before .before .before .before .before .before .before .loop in
     let t = c .before .before .before .before .before in
-    let some = closes-some (a .config) (l .now) (drop (l .k) (a .bits .now)) (rw (stretch-is t) (not-false _ (c .before .if1 .left))) in
-    omega (arith, rw (stretch-is t) at some, within t)
+    let some = closes-some (a .config) (l .now) (drop (l .k) (a .bits .now)) (rw (lap-is t) (not-false _ (c .before .if1 .left))) in
+    omega (arith, rw (lap-is t) at some, within t)
 
 loop-again : tie.Need-loop-again Inv-loop μ-loop
 loop-again c =
     let a = c .before .before .before .before .before .before .before .before .before .args in
     let l = c .before .before .before .before .before .before .before .loop in
     let t = c .before .before .before .before .before in
-    let closes = run-closes (a .config) (l .now) (drop (l .k) (a .bits .now)) _ (stretch-is t) (not-false _ (c .before .if1 .left)) in
+    let closes = run-closes (a .config) (l .now) (drop (l .k) (a .bits .now)) _ (lap-is t) (not-false _ (c .before .if1 .left)) in
     (within t, rw (c .close .ensures, ← drop-drop (t .take .result .taken) (l .k) (a .bits .now)) (l .inv .1 ∙ ap (later (l .k)) closes ∙ later-later (l .k) (t .take .result .taken) _))
 
 pub run-spec : {M : Type 1} → statement M

@@ -20,14 +20,14 @@ use Rattle.counting.specs.Bills.{unitAt}
 use Rattle.counting.specs.ByMask.{runningLines, withRun, advancedAt, advancedLines, settled, settledUnits, settledAt, settledUnitsAt, settledOf, withAmounts}
 use Rattle.counting.specs.declared.Line.{Line}
 use Rattle.sampling.specs.Samples.{activeLines, putIn, numberOf}
-use Rattle.sampling.specs.Stretches.{stretchOf}
+use Rattle.sampling.specs.Laps.{lapOf}
 use Rattle.sampling.specs.Kept.{InForce}
 use Rattle.sampling.specs.declared.booking.Tariffs.{Tariffs}
 use Rattle.sampling.specs.declared.SampleAnswer.the-variants.{Taken}
 use Rattle.counting.proofs.Parts.{own-amounts}
 use Rattle.counting.proofs.Sparse.{Half, half-start, half-next, half-turn, half-done, lowest-below, drop-less}
 use Rattle.sampling.proofs.Books.{full-booking, Left, unended, ended, still-none, put-back, others-none, ending-below, kept-amounts}
-use Rattle.sampling.proofs.Stretches.{after, goes-on, closes-there, is-refused, is-done}
+use Rattle.sampling.proofs.Laps.{after, goes-on, closes-there, is-refused, is-done}
 use Rattle.sampling.proofs.Turns.{active-mask, counts-on, sample-end, sample-full, sample-counted, sample-ticked, running-after, aged-in-force, idle-on, not-at-end}
 use Rattle.sampling.proofs.samples.take.Statement.{statement}
 use Rattle.sampling.proofs.samples.take.Tie as tie
@@ -63,7 +63,7 @@ abbrev μ-loop3 : tie.MeasureT-loop3
 abbrev Inv-loop : tie.InvT-loop
 Inv-loop config start bits inputs s1r fitted bills clock₀ count₀ lines₀ amounts₀ running₀ tariffs₀ answer₀ closes₀ k₀ clock count lines amounts running tariffs answer closes k =
     (k ≤ length bits)
-    × (stretchOf config start bits ≡ after k (stretchOf config (putIn start clock count lines (withAmounts bills amounts)) (drop k bits)))
+    × (lapOf config start bits ≡ after k (lapOf config (putIn start clock count lines (withAmounts bills amounts)) (drop k bits)))
     × (running ≡ runningLines lines)
     × (length lines ≡ 16)
     × (length amounts ≡ 16)
@@ -209,7 +209,7 @@ left : (c : tie.Left-loop Inv-loop2 μ-loop2 Inv-loop3 μ-loop3 Inv-loop μ-loop
     → let a = c .before .before .before .before .before .before .before .before .before .before .args in
     let l = c .loop-test in
     record { taken = l .k; number = numberOf (l .answer); closes = l .closes; state = putIn (a .start) (l .clock) (l .count) (l .lines) (withAmounts (a .start .bills) (l .amounts)) }
-    ≡ stretchOf (a .config) (a .start) (a .bits .now)
+    ≡ lapOf (a .config) (a .start) (a .bits .now)
 left c =
     let l = c .before .loop in
     let a = c .before .before .before .before .before .before .before .before .before .before .args in

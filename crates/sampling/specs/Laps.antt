@@ -9,7 +9,7 @@ use Rattle.settings.specs.declared.Config.{Config}
 use Rattle.sampling.specs.Periods.{multiple, clearedLines, closedAs, stateOf}
 use Rattle.sampling.specs.Samples.{bookingOn, putIn, clockEnd, numberOf}
 use Rattle.sampling.specs.declared.State.{State}
-use Rattle.sampling.specs.declared.samples.Stretch.{Stretch}
+use Rattle.sampling.specs.declared.samples.Lap.{Lap}
 
 -- one more sample of the second; after the hundredth the clock steps, and the period stays open
 unfoldable pub countedOpen : State → State
@@ -29,8 +29,8 @@ abbrev pub closing : Config → State → Bool
 closing c s = eqb (s .samples) 0 && multiple (c .period) (s .clock)
 
 -- the period of a state closes with its present second, and the next begins
-unfoldable pub closedOf : Config → State → State
-closedOf c s =
+unfoldable pub closedHere : Config → State → State
+closedHere c s =
     record {
       clock = s .clock;
       samples = s .samples;
@@ -42,26 +42,26 @@ closedOf c s =
     }
 
 -- a run to the first closing: how many samples were taken, the number of the refusal that ended it or 0, whether a period is to close, and the state
-pub record Stretched : Type 0 where
+pub record LapReply : Type 0 where
   pub taken : ℕ
   pub number : ℕ
   pub closes : Bool
   pub state : State
 
 -- one sample more in front
-abbrev pub oneMoreTaken : Stretched → Stretched
+abbrev pub oneMoreTaken : LapReply → LapReply
 oneMoreTaken t = record { taken = suc (t .taken); number = t .number; closes = t .closes; state = t .state }
 
 -- a run goes on after a sample that was taken and brings no closing
-abbrev pub stretchOn : Config → State → Answer State → (State → Stretched) → Stretched
-stretchOn c s (given next) rest = if closing c next then record { taken = 1; number = 0; closes = true; state = next } else oneMoreTaken (rest next)
-stretchOn c s (refused n offset) rest = record { taken = 0; number = n; closes = false; state = s }
+abbrev pub lapOn : Config → State → Answer State → (State → LapReply) → LapReply
+lapOn c s (given next) rest = if closing c next then record { taken = 1; number = 0; closes = true; state = next } else oneMoreTaken (rest next)
+lapOn c s (refused n offset) rest = record { taken = 0; number = n; closes = false; state = s }
 
 -- samples one after another, up to the first refusal or the first closing
-unfoldable pub stretchOf : Config → State → List ℕ → Stretched
-stretchOf c s [] = record { taken = 0; number = 0; closes = false; state = s }
-stretchOf c s (bits ∷ more) = stretchOn c s (sampleOpen c s bits) (λ next. stretchOf c next more)
+unfoldable pub lapOf : Config → State → List ℕ → LapReply
+lapOf c s [] = record { taken = 0; number = 0; closes = false; state = s }
+lapOf c s (bits ∷ more) = lapOn c s (sampleOpen c s bits) (λ next. lapOf c next more)
 
 -- what the code's answer to such a run says
-abbrev pub stretchSaid : Stretch → Stretched
-stretchSaid t = record { taken = t .taken; number = numberOf (t .answer); closes = t .closes; state = t .state }
+abbrev pub lapSaid : Lap → LapReply
+lapSaid t = record { taken = t .taken; number = numberOf (t .answer); closes = t .closes; state = t .state }

@@ -16,48 +16,48 @@ use Rattle.laws.specs.Answers.{Answer, given, refused}
 use Rattle.settings.specs.declared.Config.{Config}
 use Rattle.sampling.specs.Periods.{multiple, tickOf}
 use Rattle.sampling.specs.Samples.{bookingOn, countedOf, clockEnd, sampleOf, Run, onward, samplesOf}
-use Rattle.sampling.specs.Stretches.{countedOpen, sampleOpen, closing, closedOf, Stretched, oneMoreTaken, stretchOn, stretchOf}
+use Rattle.sampling.specs.Laps.{countedOpen, sampleOpen, closing, closedHere, LapReply, oneMoreTaken, lapOn, lapOf}
 use Rattle.sampling.specs.declared.State.{State}
 
 -- the samples of a run that went before, counted in
-abbrev pub after : ℕ → Stretched → Stretched
+abbrev pub after : ℕ → LapReply → LapReply
 after k t = record { taken = k + t .taken; number = t .number; closes = t .closes; state = t .state }
 
-module _ (c : Config) (start s : State) (bits : List ℕ) (k : ℕ) (so-far : stretchOf c start bits ≡ after k (stretchOf c s (drop k bits))) where
+module _ (c : Config) (start s : State) (bits : List ℕ) (k : ℕ) (so-far : lapOf c start bits ≡ after k (lapOf c s (drop k bits))) where
   -- the next sample was taken and brings no closing
   pub goes-on : (next : State) → k < length bits → sampleOpen c s (getD bits k 0) ≡ given next → closing c next ≡ false
-      → stretchOf c start bits ≡ after (k + 1) (stretchOf c next (drop (k + 1) bits))
-  unfolding stretchOf
+      → lapOf c start bits ≡ after (k + 1) (lapOf c next (drop (k + 1) bits))
+  unfolding lapOf
   goes-on next h g e =
-      let r = stretchOf c next (drop (suc k) bits) in
+      let r = lapOf c next (drop (suc k) bits) in
       let count : k + suc (r .taken) ≡ suc k + r .taken = omega arith in
       so-far ∙ rw (add-one k, drop-cons bits k 0 h, g, e) (λ i. record { taken = count i; number = r .number; closes = r .closes; state = r .state })
 
   -- the next sample was taken and brings one
   pub closes-there : (next : State) → k < length bits → sampleOpen c s (getD bits k 0) ≡ given next → closing c next ≡ true
-      → stretchOf c start bits ≡ record { taken = k + 1; number = 0; closes = true; state = next }
-  unfolding stretchOf
+      → lapOf c start bits ≡ record { taken = k + 1; number = 0; closes = true; state = next }
+  unfolding lapOf
   closes-there next h g e = so-far ∙ rw (drop-cons bits k 0 h, g, e)
 
   -- the next sample was refused
   pub is-refused : (n offset : ℕ) → k < length bits → sampleOpen c s (getD bits k 0) ≡ refused n offset
-      → stretchOf c start bits ≡ record { taken = k; number = n; closes = false; state = s }
-  unfolding stretchOf
+      → lapOf c start bits ≡ record { taken = k; number = n; closes = false; state = s }
+  unfolding lapOf
   is-refused n offset h g = so-far ∙ rw (drop-cons bits k 0 h, g, add-zero)
 
   -- there is no next sample
-  pub is-done : k ≤ length bits → length bits ≤ k → stretchOf c start bits ≡ record { taken = k; number = 0; closes = false; state = s }
-  unfolding stretchOf
+  pub is-done : k ≤ length bits → length bits ≤ k → lapOf c start bits ≡ record { taken = k; number = 0; closes = false; state = s }
+  unfolding lapOf
   is-done l g = let e : k ≡ length bits = le-antisymm l g in so-far ∙ rw (e, drop-length bits, add-zero)
 
 -- a sample's answer with the closing that it brings
 abbrev closedAnswer : Config → Answer State → Answer State
-closedAnswer c (given s) = given (if closing c s then closedOf c s else s)
+closedAnswer c (given s) = given (if closing c s then closedHere c s else s)
 closedAnswer c (refused n offset) = refused n offset
 
 -- a sample and its closing are document 01's sample
 sample-closes : (c : Config) (s : State) (bits : ℕ) → sampleOf c s bits ≡ closedAnswer c (sampleOpen c s bits)
-unfolding sampleOf sampleOpen countedOf countedOpen tickOf closedOf
+unfolding sampleOf sampleOpen countedOf countedOpen tickOf closedHere
 sample-closes c s bits =
     by-test (clockEnd s) (λ e. rw e)
     (λ e.
@@ -72,89 +72,89 @@ abbrev pub later : ℕ → Run → Run
 later k r = record { taken = k + r .taken; number = r .number; state = r .state }
 
 -- a run to the first closing, the closing, and the rest of the samples
-abbrev pub joined : Config → List ℕ → Stretched → Run
+abbrev pub joined : Config → List ℕ → LapReply → Run
 joined c bits t =
-    if t .closes then later (t .taken) (samplesOf c (closedOf c (t .state)) (drop (t .taken) bits))
+    if t .closes then later (t .taken) (samplesOf c (closedHere c (t .state)) (drop (t .taken) bits))
     else record { taken = t .taken; number = t .number; state = t .state }
 
 -- one sample in front of a joined run
-one-more : (c : Config) (b : ℕ) (more : List ℕ) (t : Stretched)
+one-more : (c : Config) (b : ℕ) (more : List ℕ) (t : LapReply)
     → record { taken = suc (joined c more t .taken); number = joined c more t .number; state = joined c more t .state } ≡ joined c (b ∷ more) (oneMoreTaken t)
 one-more c b more t =
     by-test (t .closes)
     (λ e.
-    let r = samplesOf c (closedOf c (t .state)) (drop (t .taken) more) in
+    let r = samplesOf c (closedHere c (t .state)) (drop (t .taken) more) in
     let count : suc (t .taken + r .taken) ≡ suc (t .taken) + r .taken = omega arith in
     rw e (λ i. record { taken = count i; number = r .number; state = r .state }))
     (λ e. rw e)
 
 -- a run goes on after its first sample, with the closing that it brings
-first-on : (c : Config) (s : State) (b : ℕ) (more : List ℕ) → ((n : State) → samplesOf c n more ≡ joined c more (stretchOf c n more)) → (a : Answer State)
-    → onward s (closedAnswer c a) (λ n. samplesOf c n more) ≡ joined c (b ∷ more) (stretchOn c s a (λ n. stretchOf c n more))
+first-on : (c : Config) (s : State) (b : ℕ) (more : List ℕ) → ((n : State) → samplesOf c n more ≡ joined c more (lapOf c n more)) → (a : Answer State)
+    → onward s (closedAnswer c a) (λ n. samplesOf c n more) ≡ joined c (b ∷ more) (lapOn c s a (λ n. lapOf c n more))
 first-on c s b more on (refused n offset) = refl
 first-on c s b more on (given next) =
     by-test (closing c next)
     (λ e.
-    let r = samplesOf c (closedOf c next) more in
+    let r = samplesOf c (closedHere c next) more in
     let count : suc (r .taken) ≡ 1 + r .taken = omega arith in
     rw e (λ i. record { taken = count i; number = r .number; state = r .state }))
-    (λ e. rw (e, on next) (one-more c b more (stretchOf c next more)))
+    (λ e. rw (e, on next) (one-more c b more (lapOf c next more)))
 
 -- a run of samples is a run to the first closing, the closing, and the rest
-pub by-stretches : (c : Config) (s : State) (bits : List ℕ) → samplesOf c s bits ≡ joined c bits (stretchOf c s bits)
-unfolding samplesOf stretchOf
-by-stretches c s [] = refl
-by-stretches c s (b ∷ more) = rw (sample-closes c s b) (first-on c s b more (λ n. by-stretches c n more) (sampleOpen c s b))
+pub by-laps : (c : Config) (s : State) (bits : List ℕ) → samplesOf c s bits ≡ joined c bits (lapOf c s bits)
+unfolding samplesOf lapOf
+by-laps c s [] = refl
+by-laps c s (b ∷ more) = rw (sample-closes c s b) (first-on c s b more (λ n. by-laps c n more) (sampleOpen c s b))
 
 -- after its first sample a run has taken no more than there are
-first-within : (c : Config) (s : State) (n : ℕ) (a : Answer State) (rest : State → Stretched) → ((x : State) → rest x .taken ≤ n) → stretchOn c s a rest .taken ≤ suc n
+first-within : (c : Config) (s : State) (n : ℕ) (a : Answer State) (rest : State → LapReply) → ((x : State) → rest x .taken ≤ n) → lapOn c s a rest .taken ≤ suc n
 first-within c s n (refused k offset) rest on = zero-le
 first-within c s n (given next) rest on = by-test (closing c next) (λ e. rw e (omega arith)) (λ e. rw e (omega (arith, on next)))
 
 -- a run takes no more samples than there are
-pub taken-within : (c : Config) (s : State) (bits : List ℕ) → stretchOf c s bits .taken ≤ length bits
-unfolding stretchOf
+pub taken-within : (c : Config) (s : State) (bits : List ℕ) → lapOf c s bits .taken ≤ length bits
+unfolding lapOf
 taken-within c s [] = zero-le
-taken-within c s (b ∷ more) = first-within c s (length more) (sampleOpen c s b) (λ n. stretchOf c n more) (λ n. taken-within c n more)
+taken-within c s (b ∷ more) = first-within c s (length more) (sampleOpen c s b) (λ n. lapOf c n more) (λ n. taken-within c n more)
 
 -- a run that goes on with one that took some where it closes took some
-first-some : (c : Config) (s : State) (a : Answer State) (rest : State → Stretched) → stretchOn c s a rest .closes ≡ true → 0 < stretchOn c s a rest .taken
+first-some : (c : Config) (s : State) (a : Answer State) (rest : State → LapReply) → lapOn c s a rest .closes ≡ true → 0 < lapOn c s a rest .taken
 first-some c s (refused k offset) rest e = let z : _≡_ {A = Bool} true false = sym e in absurd (true≢false z)
 first-some c s (given next) rest e = by-test (closing c next) (λ t. rw t (omega arith)) (λ t. rw t (omega arith))
 
 -- a run that ends with a closing took a sample
-pub closes-some : (c : Config) (s : State) (bits : List ℕ) → stretchOf c s bits .closes ≡ true → 0 < stretchOf c s bits .taken
-unfolding stretchOf
+pub closes-some : (c : Config) (s : State) (bits : List ℕ) → lapOf c s bits .closes ≡ true → 0 < lapOf c s bits .taken
+unfolding lapOf
 closes-some c s [] e = absurd (true≢false (sym e))
-closes-some c s (b ∷ more) e = first-some c s (sampleOpen c s b) (λ n. stretchOf c n more) e
+closes-some c s (b ∷ more) e = first-some c s (sampleOpen c s b) (λ n. lapOf c n more) e
 
 -- a run that goes on with one that was not refused where it closes was not refused
-first-unrefused : (c : Config) (s : State) (a : Answer State) (rest : State → Stretched) → ((x : State) → rest x .closes ≡ true → rest x .number ≡ 0) → stretchOn c s a rest .closes ≡ true → stretchOn c s a rest .number ≡ 0
+first-unrefused : (c : Config) (s : State) (a : Answer State) (rest : State → LapReply) → ((x : State) → rest x .closes ≡ true → rest x .number ≡ 0) → lapOn c s a rest .closes ≡ true → lapOn c s a rest .number ≡ 0
 first-unrefused c s (refused k offset) rest on e = absurd (true≢false (sym e))
 first-unrefused c s (given next) rest on e = by-test (closing c next) (λ t. rw t) (λ f. rw f (on next (rw f at e)))
 
 -- a run that ends with a closing was not refused
-pub closes-unrefused : (c : Config) (s : State) (bits : List ℕ) → stretchOf c s bits .closes ≡ true → stretchOf c s bits .number ≡ 0
-unfolding stretchOf
+pub closes-unrefused : (c : Config) (s : State) (bits : List ℕ) → lapOf c s bits .closes ≡ true → lapOf c s bits .number ≡ 0
+unfolding lapOf
 closes-unrefused c s [] e = refl
-closes-unrefused c s (b ∷ more) e = first-unrefused c s (sampleOpen c s b) (λ n. stretchOf c n more) (λ n. closes-unrefused c n more) e
+closes-unrefused c s (b ∷ more) e = first-unrefused c s (sampleOpen c s b) (λ n. lapOf c n more) (λ n. closes-unrefused c n more) e
 
-module _ (c : Config) (s : State) (bits : List ℕ) (t : Stretched) (is : stretchOf c s bits ≡ t) where
+module _ (c : Config) (s : State) (bits : List ℕ) (t : LapReply) (is : lapOf c s bits ≡ t) where
   -- a run to its end
   pub run-ends : t .closes ≡ false → samplesOf c s bits ≡ record { taken = t .taken; number = t .number; state = t .state }
-  run-ends e = by-stretches c s bits ∙ rw (is, e)
+  run-ends e = by-laps c s bits ∙ rw (is, e)
 
   -- a run to a closing, the closing, and the rest
-  pub run-closes : t .closes ≡ true → samplesOf c s bits ≡ later (t .taken) (samplesOf c (closedOf c (t .state)) (drop (t .taken) bits))
-  run-closes e = by-stretches c s bits ∙ rw (is, e)
+  pub run-closes : t .closes ≡ true → samplesOf c s bits ≡ later (t .taken) (samplesOf c (closedHere c (t .state)) (drop (t .taken) bits))
+  run-closes e = by-laps c s bits ∙ rw (is, e)
 
 -- samples that went before, counted in twice
 pub later-later : (k n : ℕ) (r : Run) → later k (later n r) ≡ later (k + n) r
 later-later k n r = let e : k + (n + r .taken) ≡ k + n + r .taken = omega arith in (λ i. record { taken = e i; number = r .number; state = r .state })
 
 -- a run of one sample that ends with a closing
-pub one-closes : (c : Config) (s : State) (bits : ℕ) (t : Stretched) → stretchOf c s (bits ∷ []) ≡ t → t .closes ≡ true
-    → samplesOf c s (bits ∷ []) ≡ record { taken = t .taken; number = t .number; state = closedOf c (t .state) }
+pub one-closes : (c : Config) (s : State) (bits : ℕ) (t : LapReply) → lapOf c s (bits ∷ []) ≡ t → t .closes ≡ true
+    → samplesOf c s (bits ∷ []) ≡ record { taken = t .taken; number = t .number; state = closedHere c (t .state) }
 unfolding samplesOf
 one-closes c s bits t is e =
     let most : t .taken ≤ 1 = rw is at (taken-within c s (bits ∷ [])) in

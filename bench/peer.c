@@ -47,6 +47,20 @@ static void samples(uint32_t rounds) {
     write_registers(&r);
 }
 
+/* The same samples, each in a call of its own. */
+static void singles(uint32_t rounds) {
+    static struct recorder r;
+    uint32_t sum = 0;
+    start(&r);
+    for (uint32_t i = 0; i < rounds; i++)
+        for (size_t k = 0; k < SAMPLES; k++) {
+            size_t taken;
+            sum = mixed(sum, reference_samples(&r, bits + k, 1, &taken));
+        }
+    printf("%u\n", sum);
+    write_registers(&r);
+}
+
 static uint32_t image_number(uint32_t answer) { return answer >> 16 == 4 ? answer & 0xffff : answer >> 16; }
 
 static void images(uint32_t rounds) {
@@ -117,6 +131,7 @@ int main(int argc, char **argv) {
     for (const char *job = argv[1]; *job != 0; job++) {
         switch (*job) {
         case 's': samples(rounds); break;
+        case 'o': singles(rounds); break;
         case 'i': images(rounds); break;
         case 'r': reads(rounds); break;
         case 'c': moments(rounds); break;

@@ -340,12 +340,11 @@ static bool book(struct recorder *r, uint32_t active) {
 
 /* How many samples from the first on have no line active: eight at once as long as that goes, then one by one. */
 static size_t idle(const uint16_t *bits, size_t n, uint32_t s1r, uint32_t fitted) {
-    const uint64_t each = UINT64_C(0x0001000100010001), open = each * s1r, mask = each * fitted;
     size_t k = 0;
     for (; k + 8 <= n; k += 8) {
-        uint64_t four[2];
-        memcpy(four, bits + k, sizeof four);
-        if ((((four[0] ^ open) | (four[1] ^ open)) & mask) != 0) break;
+        uint32_t some = 0;
+        for (size_t j = 0; j < 8; j++) some |= (bits[k + j] ^ s1r) & fitted;
+        if (some != 0) break;
     }
     while (k < n && ((bits[k] ^ s1r) & fitted) == 0) k++;
     return k;

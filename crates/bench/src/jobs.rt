@@ -63,6 +63,22 @@ fn samples(recorder: Recorder, bits: [u16; 1000], rounds: u32) {
     write_registers(now);
 }
 
+// The same samples, each in a call of its own.
+fn singles(recorder: Recorder, bits: [u16; 1000], rounds: u32) {
+    let mut now = recorder;
+    let mut sum: u64 = 0;
+    for i in 0..rounds {
+        for k in 0..1000usize {
+            let sampled = now.sample(bits[k]);
+            now = sampled.recorder;
+            let answer = sampled.answer;
+            sum = mixed(sum, refusal(answer));
+        }
+    }
+    write_number(sum);
+    write_registers(now);
+}
+
 fn image_number(answer: ImageAnswer) -> u64 {
     match answer {
         ImageAnswer::Accepted => 0,
@@ -160,6 +176,7 @@ fn moments(rounds: u32) {
 pub fn run(letter: u8, image: [u8; 1126], bits: [u16; 1000], rounds: u32) {
     match letter {
         b's' => samples(started(image), bits, rounds),
+        b'o' => singles(started(image), bits, rounds),
         b'i' => images(image, rounds),
         b'r' => {
             let run = started(image).samples(&bits);

@@ -12,7 +12,7 @@ use Rattle.settings.specs.declared.Input.{Input}
 use Rattle.settings.specs.declared.Register.{Register}
 use Rattle.counting.specs.Filter.{inputAt, lineAt, nextRun, fitting, oneMore}
 use Rattle.counting.specs.Units.{Credits, unitsOf, credited}
-use Rattle.counting.specs.Bills.{registerAt, billAt, unitAt, partOf, sumsOf, registerUnits, feeds, fillsUp}
+use Rattle.counting.specs.Bills.{registerAt, billAt, unitAt, partOf, registerUnits, feeds, fillsUp}
 use Rattle.counting.specs.declared.Line.{Line}
 use Rattle.counting.specs.declared.Bill.{Bill}
 

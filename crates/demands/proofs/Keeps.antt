@@ -17,7 +17,8 @@ use Rattle.settings.specs.declared.Config.{Config}
 use Rattle.settings.specs.declared.Input.{Input}
 use Rattle.counting.specs.Filter.{inputAt, lineAt, accepted, filtered, filteredAt, acceptedAt, steppedOf}
 use Rattle.counting.specs.Units.{unitsOf, unitsIf, creditIf, creditedAt, unitsAt, creditsOf}
-use Rattle.counting.specs.Bills.{feeds, registerAt, billAt, unitAt, partOf, namedPart, sumOf, sumAt, sumsOf, registerUnits, dueOf, billed, dueAt, fillsAt, billedAt, bookedOf, withAmount}
+use Rattle.counting.specs.Bills.{feeds, registerAt, billAt, unitAt, partOf, namedPart, sumOf, sumAt, sumsOf, registerUnits, dueOf, billed, dueAt, fillsAt, billedAt, bookedOf}
+use Rattle.counting.specs.ByMask.{withAmount}
 use Rattle.sampling.specs.Periods.{cleared, clearedAt, clearedLines}
 use Rattle.sampling.specs.Samples.{bookingOf, activeAt, activeLines, bookingOn, putIn}
 use Rattle.counting.specs.declared.Line.{Line}

@@ -1,12 +1,12 @@
 -- Runs of samples that end at a closing: how one goes on, and that such runs with the closings between them are the whole run.
-use mathlib.Core.Path.{_≡_, refl, sym, ap, _∙_}
-use mathlib.Core.Bool.{Bool, true, false, _&&_, true≢false}
+use mathlib.Core.Path.{_≡_, refl, sym, _∙_}
+use mathlib.Core.Bool.{Bool, true, false, true≢false}
 use mathlib.Core.List.{List, [], _∷_}
-use Prim.Native.Nat.{ℕ, zero, suc, _+_, _<_, _≤_, zero-le}
+use Prim.Native.Nat.{ℕ, suc, _+_, _<_, _≤_, zero-le}
 use native.Mathlib.Nat.{add-zero, le-antisymm}
 use native.Mathlib.Numerals.{add-one}
 use native.Mathlib.Omega.{arith}
-use lib.Dec.{leb, eqb}
+use lib.Dec.{leb}
 use lib.ListN.{length, getD, drop}
 use lib.Seq.{drop-cons, drop-length}
 use borrow.Author.Tests.{ne-eqb}
@@ -15,7 +15,7 @@ use Rattle.laws.proofs.Tests.{by-test}
 use Rattle.laws.specs.Answers.{Answer, given, refused}
 use Rattle.settings.specs.declared.Config.{Config}
 use Rattle.sampling.specs.Periods.{multiple, tickOf}
-use Rattle.sampling.specs.Samples.{bookingOn, putIn, countedOf, clockEnd, sampleOf, Run, onward, samplesOf}
+use Rattle.sampling.specs.Samples.{bookingOn, countedOf, clockEnd, sampleOf, Run, onward, samplesOf}
 use Rattle.sampling.specs.Stretches.{countedOpen, sampleOpen, closing, closedOf, Stretched, oneMoreTaken, stretchOn, stretchOf}
 use Rattle.sampling.specs.declared.State.{State}
 

@@ -3,13 +3,11 @@ use mathlib.Core.Path.{_≡_, refl, sym, ap, _∙_}
 use mathlib.Core.Bool.{Bool, true, false, not, _&&_, _||_, and-true, and-false}
 use mathlib.Core.List.{List}
 use Prim.Native.Nat.{ℕ, zero, suc, _+_, _-_, _%_, _^_, _<_, _≤_}
-use native.Mathlib.Nat.{add-zero, lt-of-le-of-lt, le-antisymm}
-use native.Mathlib.Numerals.{add-one}
+use native.Mathlib.Nat.{add-zero, lt-of-le-of-lt}
 use native.Mathlib.Omega.{arith}
 use lib.Dec.{ltb, leb, eqb}
 use lib.Bits.{bitAnd, bitOr, bitXor, and-le-r, or-lt}
 use lib.ListN.{length, getD, drop}
-use lib.Seq.{drop-cons, drop-length}
 use borrow.Author.Tests.{lt-ltb, ltb-true, ltb-false, lt-leb, le-leb, eqb-true, eqb-false, ne-eqb}
 use Rattle.laws.proofs.Tests.{by-test, and-left, and-right}
 use Rattle.laws.specs.Answers.{given, refused}
@@ -17,15 +15,13 @@ use Rattle.laws.specs.Masks.{maskOf, bitAt}
 use Rattle.laws.proofs.Masks.{bit-at, bit-zero, mask-below, mask-cong, mask-ext, mask-zero}
 use Rattle.laws.proofs.BitTests.{either, bit-and, bit-or, bit-xor}
 use Rattle.laws.specs.Tables.{table}
-use Rattle.laws.proofs.Tables.{table-at, table-cong, table-self, length-table}
+use Rattle.laws.proofs.Tables.{table-at, table-cong, table-self}
 use Rattle.settings.specs.declared.Config.{Config}
 use Rattle.settings.specs.declared.Input.{Input}
 use Rattle.counting.specs.Filter.{inputAt, lineAt, active, nextRun, ends, fitting, oneMore, accepted, filtered, filteredAt, acceptedAt, steppedOf}
 use Rattle.counting.specs.ByMask.{kindAt, kindMask, runningAt, runningLines, fedRegisters}
 use Rattle.counting.specs.Units.{credited, creditIf, creditedAt, creditsOf}
-use Rattle.counting.specs.Bills.{bookedOf}
 use Rattle.tariff.proofs.Laws.{next-same}
-use Rattle.sampling.specs.Periods.{multiple}
 use Rattle.sampling.specs.Kept.{InForce, agedTo}
 use Rattle.sampling.specs.declared.booking.Tariffs.{Tariffs}
 use Rattle.sampling.specs.Samples.{Booking, bookingOf, activeAt, activeLines, putIn}

@@ -1,9 +1,7 @@
 -- `image::check_image` meets its contract: each answer by the tests that led to it.
-use mathlib.Core.Bool.{true, false}
-use mathlib.Core.Path.{_≡_, refl, sym, ap, _∙_}
+use mathlib.Core.Path.{_≡_, sym, ap, _∙_}
 use borrow.Author.Tests.{not-true, not-false}
 use borrow.Author.Needs.{needs}
-use Rattle.image.specs.Image.{decode}
 use Rattle.settings.specs.Check.{checked}
 use Rattle.image.specs.Answers.{marked, verdictSaid, imageAnswer}
 use Rattle.image.proofs.Answers.{answer-length, answer-mark, answer-version, answer-checked}

@@ -1,5 +1,4 @@
 -- `image::read_image` meets its contract: the answer is the check's, and beside an acceptance stands what the bytes hold.
-use mathlib.Core.Bool.{true}
 use mathlib.Core.Logic.{⊎-elim}
 use mathlib.Core.Path.{_≡_, sym, ap, _∙_}
 use native.Mathlib.Omega.{arith}

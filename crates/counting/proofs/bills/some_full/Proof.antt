@@ -1,14 +1,10 @@
 -- `counting::bills::some_full` meets its contract. The loop's invariant: of the registers that are no more in `left` none would be full.
 use mathlib.Core.Path.{_≡_, sym, _∙_}
-use mathlib.Core.Bool.{Bool}
-use mathlib.Core.List.{List}
-use Prim.Native.Nat.{ℕ, _<_, _≤_, _^_}
+use Prim.Native.Nat.{_<_, _≤_, _^_}
 use native.Mathlib.Omega.{arith}
 use borrow.Author.Needs.{needs}
 use denote.Ref.{now}
 use lib.Count.{trailingZeros, trailing-le}
-use Rattle.settings.specs.declared.Register.{Register}
-use Rattle.counting.specs.Bills.{registerAt, unitAt, registerUnits, fillsUp}
 use Rattle.counting.proofs.Sparse.{Looked, look-start, look-turn, look-found, look-done, lowest-below, drop-less}
 use Rattle.counting.proofs.Full.{filledAt, full-by-mask}
 use Rattle.counting.proofs.bills.some_full.Statement.{statement}

@@ -1,6 +1,5 @@
 -- `sampling::booking::book` meets its contract: without units nothing is booked, with some the sums are those of the lines that end.
-use mathlib.Core.Path.{_≡_, refl, sym, ap, _∙_}
-use mathlib.Core.Bool.{true, false}
+use mathlib.Core.Path.{_≡_, sym, ap, _∙_}
 use borrow.Author.Needs.{needs}
 use denote.Ref.{now}
 use Rattle.counting.specs.Bills.{sumsOf}

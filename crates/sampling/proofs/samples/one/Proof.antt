@@ -1,10 +1,6 @@
 -- `sampling::samples::one` meets its contract: one sample, and the closing if it brings one.
-use mathlib.Core.Path.{_≡_, refl, sym, ap, _∙_}
-use mathlib.Core.Bool.{true, false}
-use mathlib.Core.List.{[], _∷_}
+use mathlib.Core.Path.{sym}
 use borrow.Author.Needs.{needs}
-use Rattle.sampling.specs.Samples.{samplesOf}
-use Rattle.sampling.specs.Stretches.{Stretched, stretchOf}
 use Rattle.sampling.proofs.Stretches.{one-closes, run-ends}
 use Rattle.sampling.proofs.samples.one.Statement.{statement}
 use Rattle.sampling.proofs.samples.one.Tie as tie

@@ -21,7 +21,7 @@ use Rattle.counting.specs.ByMask.{runningLines, withRun, advancedAt, advancedLi
 use Rattle.counting.specs.declared.Line.{Line}
 use Rattle.sampling.specs.Samples.{activeLines, putIn, numberOf}
 use Rattle.sampling.specs.Stretches.{stretchOf}
-use Rattle.sampling.specs.Kept.{InForce, Brings}
+use Rattle.sampling.specs.Kept.{InForce}
 use Rattle.sampling.specs.declared.booking.Tariffs.{Tariffs}
 use Rattle.sampling.specs.declared.SampleAnswer.the-variants.{Taken}
 use Rattle.counting.proofs.Parts.{own-amounts}

@@ -1,0 +1,4 @@
+-- What a call is answered: texts by value, numbers in letters, and the line of each answer.
+pub mod Texts
+pub mod Numbers
+pub mod Answers

@@ -16,8 +16,9 @@ use mir.Syntax.{w64}
 use mir.Val.{ofZ}
 use Rattle.laws.specs.Tests.{by-test}
 use Rattle.laws.specs.Answers.{given}
+use Rattle.lines.specs.Words.{letters}
 use Rattle.answers.specs.declared.Text.{Text}
-use Rattle.answers.specs.Texts.{letters, withByte, withBytes}
+use Rattle.answers.specs.Texts.{withByte, withBytes}
 use Rattle.answers.specs.Numbers.{digit, decimalIn, decimalOf, signedOf, hexDigit, hexOf}
 use Rattle.answers.specs.Answers.{lineEnd, imagePart, weekdayNames, weekdayName}
 

@@ -10,6 +10,7 @@ use Rattle.answers.proofs.register_line.Reads as register-line-reads
 use Rattle.answers.proofs.image_part.Reads as image-part-reads
 use Rattle.answers.proofs.fleet_line.Reads as fleet-line-reads
 use Rattle.answers.proofs.date_line.Reads as date-line-reads
+use Rattle.answers.proofs.error_line.Reads as error-line-reads
 
 pub ok : OneResult ok-reads.Post
 ok κs a x y e f p q = p ∙ sym q
@@ -37,3 +38,6 @@ fleet-line κs a x y e f p q = p ∙ sym q
 
 pub date-line : OneResult date-line-reads.Post
 date-line κs a x y e f p q = p ∙ sym q
+
+pub error-line : OneResult error-line-reads.Post
+error-line κs a x y e f p q = p ∙ sym q

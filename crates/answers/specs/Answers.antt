@@ -5,9 +5,11 @@ use lib.Dec.{eqb, leb}
 use lib.ListN.{length, getD, take, drop}
 use Rattle.laws.specs.If.{if_then_else_}
 use Rattle.laws.specs.Answers.{Answer, given, refused}
+use Rattle.lines.specs.Words.{letters}
+use Rattle.lines.specs.declared.Mistake.{Mistake}
 use Rattle.calendar.specs.declared.Moment.{Moment}
 use Rattle.registers.specs.declared.fleet.Fleet.{Fleet}
-use Rattle.answers.specs.Texts.{letters}
+use Rattle.answers.specs.Errors.{mistakeText}
 use Rattle.answers.specs.Numbers.{decimalOf, signedOf, twoDigits, hexOf}
 
 -- the end of a line
@@ -92,3 +94,7 @@ classesText f =
 -- `fitted 31 awake 26 stale 4 invalid 1 never 0 sum 12345`
 unfoldable pub fleetLine : Fleet → List ℕ
 fleetLine f = letters "fitted " ++ (decimalOf (f .fitted) ++ (classesText f ++ (letters " sum " ++ (signedOf (f .sum) ++ lineEnd))))
+
+-- the line of a wrong line: its number, counted from 1, and what would be right there
+unfoldable pub errorLine : ℕ → Mistake → List ℕ
+errorLine n m = letters "error: line " ++ (decimalOf n ++ (letters ": " ++ (mistakeText m ++ lineEnd)))

@@ -1,18 +1,10 @@
 -- Texts of at most 256 letters, as the code has them: letter after letter, with zeros behind them.
 use mathlib.Core.List.{List, [], _∷_}
 use Prim.Native.Nat.{ℕ, _+_}
-use Prim.Native.Char.{code}
-use Prim.Native.String.{String}
-use Prim.Native.String as string
 use lib.Dec.{ltb}
 use lib.ListN.{replicate, set}
 use Rattle.laws.specs.If.{if_then_else_}
 use Rattle.answers.specs.declared.Text.{Text}
-
--- the numbers of the letters of a quoted text
-unfoldable pub letters : String → List ℕ
-letters string.[] = []
-letters (string._∷_ c rest) = code c ∷ letters rest
 
 -- no letter
 abbrev pub blankText : Text

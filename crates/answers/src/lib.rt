@@ -1,10 +1,12 @@
 // The lines that answer calls, each with its end.
 mod dates;
+mod errors;
 mod numbers;
 mod texts;
 
 use calendar::Dated;
 use image::WriteAnswer;
+use lines::Mistake;
 use numbers::with_hex;
 use numbers::with_number;
 use numbers::with_signed;
@@ -27,7 +29,7 @@ ghost use Rattle.image.specs.Answers.{writeSaid};
 ghost use Rattle.registers.specs.Registers.{registerSaid};
 ghost use Rattle.answers.specs.Texts.{withBytes, asText};
 ghost use Rattle.answers.specs.Numbers.{decimalOf, hexOf};
-ghost use Rattle.answers.specs.Answers.{okLine, refusedLine, refusedAt, refusedAfter, numberLine, samplesLine, startLine, registerLine, imagePart, lineEnd, dateLine, classesText, fleetLine};
+ghost use Rattle.answers.specs.Answers.{okLine, refusedLine, refusedAt, refusedAfter, numberLine, samplesLine, startLine, registerLine, imagePart, lineEnd, dateLine, classesText, fleetLine, errorLine};
 
 // A text of at most 256 letters: the first `length` bytes, and zeros behind them.
 pub struct Text {
@@ -79,13 +81,13 @@ pub fn start_line(answer: StartAnswer) -> Text
 }
 
 // Of samples `taken` were, before the one that was refused.
-pub fn samples_line(answer: SampleAnswer, taken: u64) -> Text
+pub fn samples_line(answer: SampleAnswer, taken: u32) -> Text
     ensures { λ r. ⌜ r ≡ asText (samplesLine (numberOf answer) taken) ⌝ }
 {
     match answer {
         SampleAnswer::Taken => ok(),
-        SampleAnswer::ClockEnd => refused_after(5, taken),
-        SampleAnswer::Full => refused_after(6, taken),
+        SampleAnswer::ClockEnd => refused_after(5, taken as u64),
+        SampleAnswer::Full => refused_after(6, taken as u64),
     }
 }
 
@@ -206,4 +208,13 @@ pub fn fleet_line(fleet: Fleet) -> Text
     let classes = with_classes(fitted, fleet);
     let sum = with_bytes(classes, b" sum ");
     with_byte(with_signed(sum, fleet.sum), b'\n')
+}
+
+// What is wrong with the line of a number, counted from 1.
+pub fn error_line(line: u64, mistake: Mistake) -> Text
+    ensures { λ r. ⌜ r ≡ asText (errorLine line mistake) ⌝ }
+{
+    let word = with_bytes(texts::blank(), b"error: line ");
+    let number = with_bytes(with_number(word, line), b": ");
+    with_byte(errors::with_mistake(number, mistake), b'\n')
 }

@@ -1,7 +1,8 @@
 -- `answers::fleet_line` meets its contract: one part after the other.
 use Rattle.answers.proofs.Laws.{split}
 use Rattle.answers.specs.Answers.{fleetLine}
-use Rattle.answers.specs.Texts.{letters, withBytes}
+use Rattle.lines.specs.Words.{letters}
+use Rattle.answers.specs.Texts.{withBytes}
 use borrow.Author.Needs.{needs}
 use mir.Facts.{toZ-ofZ}
 use mir.Syntax.{w64}

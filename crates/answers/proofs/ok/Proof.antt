@@ -1,5 +1,6 @@
 -- `answers::ok` meets its contract.
-use Rattle.answers.specs.Texts.{letters, withBytes}
+use Rattle.lines.specs.Words.{letters}
+use Rattle.answers.specs.Texts.{withBytes}
 use borrow.Author.Needs.{needs}
 use Rattle.answers.proofs.ok.Statement.{statement}
 use Rattle.answers.proofs.ok.Tie as tie

@@ -1,6 +1,7 @@
 -- `answers::with_classes` meets its contract: four words, each with its count.
 use Rattle.answers.proofs.Laws.{split}
-use Rattle.answers.specs.Texts.{letters, withBytes}
+use Rattle.lines.specs.Words.{letters}
+use Rattle.answers.specs.Texts.{withBytes}
 use borrow.Author.Needs.{needs}
 use Rattle.answers.proofs.with_classes.Statement.{statement}
 use Rattle.answers.proofs.with_classes.Tie as tie

@@ -7,7 +7,6 @@ use recorder::Recorder;
 use recorder::SampleRun;
 use sampling::SampleAnswer;
 ghost use Prim.Native.Nat.{_<_, _≤_};
-ghost use lib.ListN.{length};
 
 // The recorder, and how much of the output buffer is filled.
 pub(crate) struct Desk {
@@ -50,10 +49,12 @@ fn piece(left: u32) -> usize
     if left < 512 { left as usize } else { 512 }
 }
 
-fn take_piece(recorder: Recorder, bits: &[u16]) -> SampleRun
-    ensures { λ r. ⌜ r .taken ≤ length (now (bits .entry)) ⌝ }
+fn take_piece(recorder: Recorder, bits: u16, n: usize) -> SampleRun
+    requires { ⌜ n ≤ 512 ⌝ }
+    ensures { λ r. ⌜ r .taken ≤ n ⌝ }
 {
-    recorder.samples(bits)
+    let all = [bits; 512];
+    recorder.samples(&all[..n])
 }
 
 fn is_taken(answer: SampleAnswer) -> bool {
@@ -62,12 +63,11 @@ fn is_taken(answer: SampleAnswer) -> bool {
 
 // In pieces of 512, to the first refusal.
 fn take_samples(recorder: Recorder, bits: u16, count: u32) -> Counted {
-    let all = [bits; 512];
     let mut now = recorder;
     let mut left = count;
     while 0 < left {
         let n = piece(left);
-        let run = take_piece(now, &all[..n]);
+        let run = take_piece(now, bits, n);
         let answer = run.answer;
         now = run.recorder;
         if !is_taken(answer) {

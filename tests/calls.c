@@ -624,23 +624,23 @@ static void set_call(void) {
   if (percent(30)) show(LEVEL9, 2);
 }
 
-/* Lines that are wrong, blank, or long. */
+/* Lines that are wrong, blank, or long, and lines with a carriage return at the end. */
 
 static void wrong_line(void) {
   static const char *const lines[] = {
-    " ", "  ", "x", "Reset", "resets", " reset", "start\t0", "reset\r", "-", "0", "sampl", "samples 1", "start", "set", "date", "sample", "reading", "register",
+    " ", "  ", "x", "Reset", "resets", " reset", "start\t0", "reset\r\r", "-", "\r", "fleet\r", "samples 1", "start", "set", "date", "sample", "reading", "register",
     "register 82", "register 82 0 13 1", "sample 1 2 3", "reset 1", "reset ", "image x", "fleet ", "reading 1 2 3", "reading 1 2 3 4 5", "date 1 2", "set  1",
     "set ", "date ", "sample ", "sample 1 ", "sample  1", "set -1", "set +1", "set 4294967296", "set 99999999999999999999999999999", "start -0", "start 4294967296",
     "sample 65536", "sample -1", "sample 1 4294967296", "sample 1 -5", "sample 0x1", "sample 1.0", "reading 256 0 0 0", "reading 0 2147483648 0 0",
     "reading 0 -2147483649 0 0", "reading 0 - 0 0", "reading 0 --1 0 0", "reading 0 +1 0 0", "reading 0 1 256 0", "reading 0 1 0 256", "reading -0 1 0 0",
     "reading 0 1 -0 0", "reading 0 1 0 -0", "reading 0 18446744073709551616 0 0", "register 4294967296 0", "register 82 -0", "register 82 0 -1",
     "register 82 0 4294967296", "register 82 4294967296", "register x 0", "date 1e3", "date 18446744073709551617", "register 82 18446744073709551616",
-    "sample 18446744073709551617", "reading 32 2147483648 8 32", "start x y", "sample 65536 1 1"};
+    "sample 18446744073709551617\r", "reading 256 2147483648 256 256", "start x y\r", "sample 65536 4294967296"};
   const char *text = PICK(lines);
   put_line(text, strlen(text));
 }
 
-/* A line filled up by zeros before its number, or by more of a comment, to about 255 bytes, and far longer ones. */
+/* A line filled up by zeros before its number, or by more of a comment, to about 255 bytes, and far longer ones. Some end with a carriage return. */
 static void long_line(void) {
   static const char *const fronts[] = {"date ", "set ", "#", "register 89 ", "reading 0 -", "sample 0 ", "x", "start "};
   static char text[80000];
@@ -648,7 +648,8 @@ static void long_line(void) {
   const char *front = PICK(fronts);
   memset(text, '0', length);
   memcpy(text, front, strlen(front));
-  text[length - 1] = (char)('0' + below(10));
+  unsigned last = below(10);
+  text[length - 1] = (char)(last < 8 ? '0' + last : '\r');
   put_line(text, length);
 }
 

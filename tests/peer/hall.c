@@ -11,7 +11,7 @@
 #include <stdio.h>
 #include <string.h>
 
-enum { LONGEST_LINE = 255, PIECE = 512 };
+enum { LONGEST_LINE = 255, KEPT = LONGEST_LINE + 1, PIECE = 512 }; /* one byte more is kept, for a carriage return */
 
 static uint8_t image[IMAGE_LENGTH + 1]; /* one byte more, so that a longer file is seen to be longer */
 static size_t image_length;
@@ -87,8 +87,15 @@ static struct word word[LONGEST_LINE + 1];
 static unsigned words;
 
 static void wrong(const char *what) { printf("error: line %lu: %s\n", line_number, what); }
-static void wrong_count(void) { wrong("wrong count of words"); }
-static void wrong_number(void) { wrong("not a number, or one that does not fit"); }
+
+/* What a command needs, as README's table has it. */
+static void wrong_words(const char *needs) { printf("error: line %lu: %.*s %s\n", line_number, (int)word[0].length, word[0].at, needs); }
+
+/* A word that is no number of its range: said once, and the line is not answered. */
+static bool wrong_number(const char *name, long long least, long long most) {
+    printf("error: line %lu: %s is not a number from %lld to %lld\n", line_number, name, least, most);
+    return false;
+}
 
 static void split(const char *line, size_t length) {
     words = 0;
@@ -112,11 +119,11 @@ static bool number_in(struct word w, uint64_t most, uint64_t *number) {
     return w.length > 0;
 }
 
-static bool number(unsigned k, uint32_t most, uint32_t *to) {
+static bool number(unsigned k, const char *name, uint32_t most, uint32_t *to) {
     uint64_t n;
     bool good = number_in(word[k], most, &n);
     *to = (uint32_t)n;
-    return good;
+    return good || wrong_number(name, 0, most);
 }
 
 static bool value(unsigned k, int32_t *to) {
@@ -125,7 +132,7 @@ static bool value(unsigned k, int32_t *to) {
     struct word digits = {word[k].at + minus, word[k].length - minus};
     bool good = number_in(digits, minus ? 2147483648u : 2147483647u, &n);
     *to = (int32_t)(minus ? -(int64_t)n : (int64_t)n);
-    return good;
+    return good || wrong_number("VALUE", INT32_MIN, INT32_MAX);
 }
 
 static void set_clock(uint32_t time) {
@@ -135,8 +142,8 @@ static void set_clock(uint32_t time) {
 
 static void timed_line(void) {
     uint32_t time;
-    if (words != 2) wrong_count();
-    else if (!number(1, UINT32_MAX, &time)) wrong_number();
+    if (words != 2) wrong_words("needs SECONDS");
+    else if (!number(1, "SECONDS", UINT32_MAX, &time)) return;
     else if (command("date")) answer_date(time);
     else if (command("set")) set_clock(time);
     else answer_at(peer_start(&recorder, image, image_length, time));
@@ -144,24 +151,23 @@ static void timed_line(void) {
 
 static void sample_line(void) {
     uint32_t bits, count = 1;
-    if (words != 2 && words != 3) wrong_count();
-    else if (!number(1, 65535, &bits) || (words == 3 && !number(2, UINT32_MAX, &count))) wrong_number();
-    else answer_samples((uint16_t)bits, count);
+    if (words != 2 && words != 3) wrong_words("needs BITS or BITS COUNT");
+    else if (number(1, "BITS", 65535, &bits) && (words == 2 || number(2, "COUNT", UINT32_MAX, &count))) answer_samples((uint16_t)bits, count);
 }
 
 static void reading_line(void) {
     uint32_t meter, status, seq;
     int32_t v;
-    if (words != 5) wrong_count();
-    else if (!number(1, 255, &meter) || !value(2, &v) || !number(3, 255, &status) || !number(4, 255, &seq)) wrong_number();
-    else answer(peer_reading(&recorder, meter, v, status, seq));
+    if (words != 5) wrong_words("needs METER VALUE STATUS SEQ");
+    else if (number(1, "METER", 255, &meter) && value(2, &v) && number(3, "STATUS", 255, &status) && number(4, "SEQ", 255, &seq))
+        answer(peer_reading(&recorder, meter, v, status, seq));
 }
 
 static void register_line(void) {
     uint32_t group, n, room = LONGEST_REGISTER;
-    if (words != 3 && words != 4) wrong_count();
-    else if (!number(1, UINT32_MAX, &group) || !number(2, UINT32_MAX, &n) || (words == 4 && !number(3, UINT32_MAX, &room))) wrong_number();
-    else answer_register(group, n, room);
+    if (words != 3 && words != 4) wrong_words("needs GROUP NUMBER or GROUP NUMBER ROOM");
+    else if (number(1, "GROUP", UINT32_MAX, &group) && number(2, "NUMBER", UINT32_MAX, &n) && (words == 3 || number(3, "ROOM", UINT32_MAX, &room)))
+        answer_register(group, n, room);
 }
 
 static void reset_bills(void) {
@@ -170,14 +176,16 @@ static void reset_bills(void) {
 }
 
 static void line_of_one_word(void) {
-    if (words != 1) wrong_count();
+    if (words != 1) wrong_words("stands alone");
     else if (command("image")) answer_image();
     else if (command("fleet")) answer_fleet();
     else reset_bills();
 }
 
+/* A carriage return at the end is no part of the line. */
 static void answer_line(const char *line, size_t length) {
     line_number++;
+    if (length > 0 && length <= KEPT && line[length - 1] == '\r') length--;
     if (length > LONGEST_LINE) {
         wrong("longer than 255 bytes");
         return;
@@ -194,14 +202,14 @@ static void answer_line(const char *line, size_t length) {
 
 /* A last line without an end is a line. */
 static void answer_all(void) {
-    static char line[LONGEST_LINE];
+    static char line[KEPT];
     size_t length = 0;
     for (int c = getchar(); c != EOF; c = getchar()) {
         if (c == '\n') {
             answer_line(line, length);
             length = 0;
         } else {
-            if (length < LONGEST_LINE) line[length] = (char)c;
+            if (length < KEPT) line[length] = (char)c;
             length++;
         }
     }

@@ -1,7 +1,6 @@
 // `hall IMAGE`: a recorder, and calls on it as lines of standard input. Each line is answered by one line; a blank line and one that begins with # by none.
-// The lines are those of crate lines, the calls those of crates recorder and registers. Answers are written in large pieces, and all of them before more input
-// is waited for.
-mod answers;
+// The lines are those of crate lines, the calls those of crates recorder and registers, the answers those of crate answers. They are written in large pieces, and
+// all of them before more input is waited for.
 mod calls;
 mod output;
 
@@ -18,7 +17,7 @@ struct Work {
     length: usize,
 }
 
-// Puts bytes at the end of the line that is being read. A line of 256 bytes is too long already, so no more of it is kept.
+// Puts bytes at the end of the line that is being read. A line of 257 bytes is too long already, so no more of it is kept.
 fn keep(line: &mut [u8], length: usize, bytes: &[u8]) -> usize {
     let mut n = length;
     for i in 0..bytes.len() {
@@ -60,9 +59,9 @@ fn answer_line(
     desk
 }
 
-// No run has as many lines as would be counted anew here.
+// The count stops at the largest number.
 fn one_more(lines: u64) -> u64 {
-    lines % 18446744073709551615 + 1
+    if lines < u64::MAX { lines + 1 } else { lines }
 }
 
 // Answers each line that ends in these bytes, and keeps what is left of the last.
@@ -116,7 +115,7 @@ fn last_line(work: Work, image: &[u8], line: &[u8], out: &mut [u8]) {
 
 // A proved loop has to end, and nothing says that the input does. So it counts its turns down, from a number that no run uses up.
 fn run(image: &[u8]) {
-    let mut line = [0u8; 256];
+    let mut line = [0u8; 257];
     let mut out = io::large_buffer();
     let desk = calls::first_desk();
     let mut work = Work {

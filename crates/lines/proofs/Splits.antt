@@ -10,7 +10,13 @@ use lib.Dec.{eqb}
 use lib.ListN.{length, getD, take, drop, drop-of-length-le}
 use lib.Seq.{drop-cons, drop-drop}
 use Rattle.laws.proofs.Tests.{by-test}
-use Rattle.lines.specs.Words.{inFront, words, word, blankAt, same}
+use Rattle.lines.specs.Words.{withoutReturn, inFront, words, word, blankAt, same}
+
+-- an empty line has no carriage return
+pub empty-kept : (l : List ℕ) → length l ≡ 0 → l ≡ withoutReturn l
+unfolding withoutReturn
+empty-kept [] e = refl
+empty-kept (b ∷ rest) e = absurd (omega arith)
 
 -- the place of the first blank: a letter that is none, a blank, the end
 module _ (l : List ℕ) (i : ℕ) where

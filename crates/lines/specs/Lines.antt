@@ -1,18 +1,24 @@
 -- The table of lines. A line is taken without its end.
-use mathlib.Core.Bool.{Bool, true, false, _&&_}
+use mathlib.Core.Bool.{Bool, true, false, not, _||_}
 use mathlib.Core.List.{List, [], _∷_}
 use Prim.Native.Nat.{ℕ}
 use lib.Dec.{ltb, eqb}
 use lib.ListN.{length, getD}
 use Rattle.laws.specs.If.{if_then_else_}
-use Rattle.lines.specs.Words.{words, word, same}
+use Rattle.lines.specs.Words.{letters, withoutReturn, words, word, same}
 use Rattle.lines.specs.Numbers.{numberOf, signedOf}
 use Rattle.lines.specs.declared.numbers.Number.{Number}
 use Rattle.lines.specs.declared.numbers.Signed.{Signed}
 use Rattle.lines.specs.declared.Line.{Line}
-use Rattle.lines.specs.declared.Line.the-variants.{Nothing, Start, Sample, Set, Reading, Reset, Register, Image, Date, Fleet, Unknown, WrongCount, BadNumber, TooLong}
+use Rattle.lines.specs.declared.Line.the-variants.{Nothing, Start, Sample, Set, Reading, Reset, Register, Image, Date, Fleet, Wrong}
+use Rattle.lines.specs.declared.Mistake.{Mistake}
+use Rattle.lines.specs.declared.Mistake.the-variants as mistake
 use Rattle.lines.specs.declared.Command.{Command}
 use Rattle.lines.specs.declared.Command.the-variants as command
+use Rattle.lines.specs.declared.Parameter.{Parameter}
+use Rattle.lines.specs.declared.Parameter.the-variants as parameter
+use Rattle.lines.specs.declared.First.{First}
+use Rattle.lines.specs.declared.First.the-variants as first
 use Rattle.lines.specs.declared.Timed.{Timed}
 use Rattle.lines.specs.declared.Timed.the-variants as timed
 
@@ -32,124 +38,96 @@ number8 k text = numberOf 255 (word k text)
 abbrev pub count : List ℕ → ℕ
 count text = length (words text)
 
+-- word k as a number of 32 bits; n where the line has no such word
+abbrev pub numberOr : ℕ → ℕ → List ℕ → Number
+numberOr n k text = if ltb k (count text) then number32 k text else record { ok = true; value = n }
+
+-- a word that is no number, or one that does not fit
+abbrev pub bad : Parameter → Line
+bad p = Wrong (mistake.Number p)
+
 -- what is asked with one time
 abbrev pub withTime : Timed → ℕ → Line
 withTime timed.Start = Start
 withTime timed.Set = Set
 withTime timed.Date = Date
 
--- samples: bits and how many
+-- a time
+abbrev pub timeOf : (ℕ → Line) → Number → Line
+timeOf ask n = if not (n .ok) then bad parameter.Seconds else ask (n .value)
+
+-- samples: bits and how many; the first number that is wrong is told
 abbrev pub sampleOf : Number → Number → Line
-sampleOf bits n = if bits .ok && n .ok then Sample (bits .value) (n .value) else BadNumber
+sampleOf bits n = if not (bits .ok) then bad parameter.Bits else if not (n .ok) then bad parameter.Count else Sample (bits .value) (n .value)
 
 -- a reading: meter, value, STATUS and SEQ
 abbrev pub readingOf : Number → Signed → Number → Number → Line
-readingOf m v s q = if (m .ok && v .ok) && (s .ok && q .ok) then Reading (m .value) (v .value) (s .value) (q .value) else BadNumber
+readingOf m v s q =
+    if not (m .ok) then bad parameter.Meter
+    else if not (v .ok) then bad parameter.Value
+    else if not (s .ok) then bad parameter.Status
+    else if not (q .ok) then bad parameter.Seq
+    else Reading (m .value) (v .value) (s .value) (q .value)
 
 -- a register request: group, register and room
 abbrev pub registerOf : Number → Number → Number → Line
-registerOf g r room = if g .ok && (r .ok && room .ok) then Register (g .value) (r .value) (room .value) else BadNumber
+registerOf g r room =
+    if not (g .ok) then bad parameter.Group
+    else if not (r .ok) then bad parameter.Number
+    else if not (room .ok) then bad parameter.Room
+    else Register (g .value) (r .value) (room .value)
 
--- a number that stands where none is written
-abbrev pub given : ℕ → Number
-given n = record { ok = true; value = n }
+-- how many words a line of a command has
+abbrev pub hasWords : Command → ℕ → Bool
+hasWords command.Start n = eqb n 2
+hasWords command.Sample n = eqb n 2 || eqb n 3
+hasWords command.Set n = eqb n 2
+hasWords command.Reading n = eqb n 5
+hasWords command.Reset n = eqb n 1
+hasWords command.Register n = eqb n 3 || eqb n 4
+hasWords command.Image n = eqb n 1
+hasWords command.Date n = eqb n 2
+hasWords command.Fleet n = eqb n 1
 
--- `sample BITS` is one sample, `sample BITS COUNT` as many as it says
-unfoldable pub sampleLine : List ℕ → Line
-sampleLine text =
-    if eqb (count text) 2 then sampleOf (number16 1 text) (given 1)
-    else if eqb (count text) 3 then sampleOf (number16 1 text) (number32 2 text)
-    else WrongCount
-
--- `register GROUP NUMBER` has room for the longest register, 13 bytes; `register GROUP NUMBER ROOM` as much as it says
-unfoldable pub registerLine : List ℕ → Line
-registerLine text =
-    if eqb (count text) 3 then registerOf (number32 1 text) (number32 2 text) (given 13)
-    else if eqb (count text) 4 then registerOf (number32 1 text) (number32 2 text) (number32 3 text)
-    else WrongCount
-
--- `reading METER VALUE STATUS SEQ`
-unfoldable pub readingLine : List ℕ → Line
-readingLine text = if eqb (count text) 5 then readingOf (number8 1 text) (signedOf (word 2 text)) (number8 3 text) (number8 4 text) else WrongCount
-
--- a word and a time
-unfoldable pub timeLine : (ℕ → Line) → List ℕ → Line
-timeLine ask text =
-    if eqb (count text) 2
-    then (let time = number32 1 text in if time .ok then ask (time .value) else BadNumber)
-    else WrongCount
-
--- a word alone
-unfoldable pub aloneLine : Line → List ℕ → Line
-aloneLine ask text = if eqb (count text) 1 then ask else WrongCount
-
--- the letters of `start`
-abbrev pub startWord : List ℕ
-startWord = 115 ∷ 116 ∷ 97 ∷ 114 ∷ 116 ∷ []
-
--- the letters of `sample`
-abbrev pub sampleWord : List ℕ
-sampleWord = 115 ∷ 97 ∷ 109 ∷ 112 ∷ 108 ∷ 101 ∷ []
-
--- the letters of `set`
-abbrev pub setWord : List ℕ
-setWord = 115 ∷ 101 ∷ 116 ∷ []
-
--- the letters of `reading`
-abbrev pub readingWord : List ℕ
-readingWord = 114 ∷ 101 ∷ 97 ∷ 100 ∷ 105 ∷ 110 ∷ 103 ∷ []
-
--- the letters of `reset`
-abbrev pub resetWord : List ℕ
-resetWord = 114 ∷ 101 ∷ 115 ∷ 101 ∷ 116 ∷ []
-
--- the letters of `register`
-abbrev pub registerWord : List ℕ
-registerWord = 114 ∷ 101 ∷ 103 ∷ 105 ∷ 115 ∷ 116 ∷ 101 ∷ 114 ∷ []
-
--- the letters of `image`
-abbrev pub imageWord : List ℕ
-imageWord = 105 ∷ 109 ∷ 97 ∷ 103 ∷ 101 ∷ []
-
--- the letters of `date`
-abbrev pub dateWord : List ℕ
-dateWord = 100 ∷ 97 ∷ 116 ∷ 101 ∷ []
-
--- the letters of `fleet`
-abbrev pub fleetWord : List ℕ
-fleetWord = 102 ∷ 108 ∷ 101 ∷ 101 ∷ 116 ∷ []
+-- what a line of a command asks; COUNT is 1 where it is not written, and ROOM 13, the longest register
+unfoldable pub askedOf : Command → List ℕ → Line
+askedOf command.Start text = timeOf Start (number32 1 text)
+askedOf command.Sample text = sampleOf (number16 1 text) (numberOr 1 2 text)
+askedOf command.Set text = timeOf Set (number32 1 text)
+askedOf command.Reading text = readingOf (number8 1 text) (signedOf (word 2 text)) (number8 3 text) (number8 4 text)
+askedOf command.Reset text = Reset
+askedOf command.Register text = registerOf (number32 1 text) (number32 2 text) (numberOr 13 3 text)
+askedOf command.Image text = Image
+askedOf command.Date text = timeOf Date (number32 1 text)
+askedOf command.Fleet text = Fleet
 
 -- the command of a first word
-unfoldable pub commandOf : List ℕ → Command
+unfoldable pub commandOf : List ℕ → First
 commandOf w =
-    if same w sampleWord then command.Sample
-    else if same w startWord then command.Start
-    else if same w setWord then command.Set
-    else if same w readingWord then command.Reading
-    else if same w resetWord then command.Reset
-    else if same w registerWord then command.Register
-    else if same w imageWord then command.Image
-    else if same w dateWord then command.Date
-    else if same w fleetWord then command.Fleet
-    else command.Unknown
+    if same w (letters "sample") then first.Is command.Sample
+    else if same w (letters "start") then first.Is command.Start
+    else if same w (letters "set") then first.Is command.Set
+    else if same w (letters "reading") then first.Is command.Reading
+    else if same w (letters "reset") then first.Is command.Reset
+    else if same w (letters "register") then first.Is command.Register
+    else if same w (letters "image") then first.Is command.Image
+    else if same w (letters "date") then first.Is command.Date
+    else if same w (letters "fleet") then first.Is command.Fleet
+    else first.Unknown
 
--- what a line asks that has a command
-unfoldable pub asked : Command → List ℕ → Line
-asked command.Start text = timeLine Start text
-asked command.Sample text = sampleLine text
-asked command.Set text = timeLine Set text
-asked command.Reading text = readingLine text
-asked command.Reset text = aloneLine Reset text
-asked command.Register text = registerLine text
-asked command.Image text = aloneLine Image text
-asked command.Date text = timeLine Date text
-asked command.Fleet text = aloneLine Fleet text
-asked command.Unknown text = Unknown
+-- what a line asks by its first word: a command with as many words as it has
+unfoldable pub asked : First → List ℕ → Line
+asked (first.Is c) text = if hasWords c (count text) then askedOf c text else Wrong (mistake.Words c)
+asked first.Unknown text = Wrong mistake.Unknown
 
 -- what a line asks: at most 255 letters; nothing if it is blank or begins with # (35)
-unfoldable pub lineMeans : List ℕ → Line
-lineMeans text =
-    if ltb 255 (length text) then TooLong
+unfoldable pub textMeans : List ℕ → Line
+textMeans text =
+    if ltb 255 (length text) then Wrong mistake.TooLong
     else if eqb (length text) 0 then Nothing
     else if eqb (getD text 0 0) 35 then Nothing
     else asked (commandOf (word 0 text)) text
+
+-- the same where a carriage return may stand at the end
+abbrev pub lineMeans : List ℕ → Line
+lineMeans text = textMeans (withoutReturn text)

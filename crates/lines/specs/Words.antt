@@ -1,10 +1,22 @@
 -- The words of a line, which are separated by one blank: two blanks have an empty word between them, and so has a blank at either end.
 use mathlib.Core.Bool.{Bool, true, false, _&&_}
 use mathlib.Core.List.{List, [], _∷_}
-use Prim.Native.Nat.{ℕ, suc}
+use Prim.Native.Nat.{ℕ, suc, _-_}
+use Prim.Native.Char.{code}
+use Prim.Native.String.{String}
+use Prim.Native.String as string
 use lib.Dec.{eqb}
-use lib.ListN.{getD}
+use lib.ListN.{length, getD, take}
 use Rattle.laws.specs.If.{if_then_else_}
+
+-- the numbers of the letters of a quoted text
+unfoldable pub letters : String → List ℕ
+letters string.[] = []
+letters (string._∷_ c rest) = code c ∷ letters rest
+
+-- a line without the carriage return (13) that may stand at its end
+unfoldable pub withoutReturn : List ℕ → List ℕ
+withoutReturn text = if eqb (getD text (length text - 1) 0) 13 then take (length text - 1) text else text
 
 -- a letter in front of the first word
 unfoldable pub inFront : ℕ → List (List ℕ) → List (List ℕ)

@@ -8,7 +8,8 @@ ghost use mathlib.Core.Path.{_≡_};
 ghost use Prim.Native.Nat.{_≤_};
 ghost use Rattle.lines.specs.Words.{word};
 ghost use Rattle.lines.specs.Numbers.{numberOf, signedOf};
-ghost use Rattle.lines.specs.Lines.{sampleOf, readingOf, registerOf, withTime, sampleLine, registerLine, readingLine, timeLine, aloneLine, commandOf, asked, lineMeans};
+ghost use Rattle.lines.specs.Lines.{number32, numberOr, sampleOf, readingOf, registerOf, withTime, timeOf, hasWords, askedOf, commandOf, asked, textMeans, lineMeans};
+ghost use Rattle.lines.specs.Lines.{bad as Lines·bad};
 
 // What a line asks, or what is wrong with it.
 pub enum Line {
@@ -26,18 +27,22 @@ pub enum Line {
     Image,
     Date(u32),
     Fleet,
+    Wrong(Mistake),
+}
+
+// What is wrong with a line.
+pub enum Mistake {
+    // More than 255 letters.
+    TooLong,
     // No command begins so.
     Unknown,
     // Words are missing, or there are too many.
-    WrongCount,
+    Words(Command),
     // A word is no number, or one that does not fit.
-    BadNumber,
-    // More than 255 letters.
-    TooLong,
+    Number(Parameter),
 }
 
-// What the first word of a line says.
-enum Command {
+pub enum Command {
     Start,
     Sample,
     Set,
@@ -47,6 +52,25 @@ enum Command {
     Image,
     Date,
     Fleet,
+}
+
+// The numbers that lines have.
+pub enum Parameter {
+    Seconds,
+    Bits,
+    Count,
+    Meter,
+    Value,
+    Status,
+    Seq,
+    Group,
+    Number,
+    Room,
+}
+
+// What the first word of a line says.
+enum First {
+    Is(Command),
     Unknown,
 }
 
@@ -57,37 +81,37 @@ enum Timed {
     Date,
 }
 
-fn command_of(first: &[u8]) -> Command
+fn command_of(first: &[u8]) -> First
     ensures { λ r. ⌜ r ≡ commandOf (now (first .entry)) ⌝ }
 {
     if words::is(first, b"sample") {
-        return Command::Sample;
+        return First::Is(Command::Sample);
     }
     if words::is(first, b"start") {
-        return Command::Start;
+        return First::Is(Command::Start);
     }
     if words::is(first, b"set") {
-        return Command::Set;
+        return First::Is(Command::Set);
     }
     if words::is(first, b"reading") {
-        return Command::Reading;
+        return First::Is(Command::Reading);
     }
     if words::is(first, b"reset") {
-        return Command::Reset;
+        return First::Is(Command::Reset);
     }
     if words::is(first, b"register") {
-        return Command::Register;
+        return First::Is(Command::Register);
     }
     if words::is(first, b"image") {
-        return Command::Image;
+        return First::Is(Command::Image);
     }
     if words::is(first, b"date") {
-        return Command::Date;
+        return First::Is(Command::Date);
     }
     if words::is(first, b"fleet") {
-        return Command::Fleet;
+        return First::Is(Command::Fleet);
     }
-    Command::Unknown
+    First::Unknown
 }
 
 // Word k as a number of at most `most`.
@@ -98,6 +122,19 @@ fn number_at(text: &[u8], k: usize, most: u32) -> Number
     numbers::read_number(w, most)
 }
 
+// Word k as a number; `other` where there is no such word.
+fn number_or(text: &[u8], k: usize, other: u32) -> Number
+    ensures { λ r. ⌜ r ≡ numberOr other k (now (text .entry)) ⌝ }
+{
+    if k < words::count(text) {
+        return number_at(text, k, 4294967295);
+    }
+    Number {
+        ok: true,
+        value: other,
+    }
+}
+
 fn signed_at(text: &[u8], k: usize) -> Signed
     ensures { λ r. ⌜ r ≡ signedOf (word k (now (text .entry))) ⌝ }
 {
@@ -105,88 +142,11 @@ fn signed_at(text: &[u8], k: usize) -> Signed
     numbers::read_signed(w)
 }
 
-// Samples of which the bits and the count are read.
-fn sample_of(bits: Number, n: Number) -> Line
-    requires { ⌜ bits .value ≤ 65535 ⌝ }
-    ensures { λ r. ⌜ r ≡ sampleOf bits n ⌝ }
+// A word that is no number, or one that does not fit.
+fn bad(parameter: Parameter) -> Line
+    ensures { λ r. ⌜ r ≡ Lines·bad parameter ⌝ }
 {
-    if bits.ok & n.ok {
-        return Line::Sample(bits.value as u16, n.value);
-    }
-    Line::BadNumber
-}
-
-fn sample_line(text: &[u8]) -> Line
-    ensures { λ r. ⌜ r ≡ sampleLine (now (text .entry)) ⌝ }
-{
-    let count = words::count(text);
-    if count == 2 {
-        let bits = number_at(text, 1, 65535);
-        return sample_of(bits, Number { ok: true, value: 1 });
-    }
-    if count == 3 {
-        let bits = number_at(text, 1, 65535);
-        let n = number_at(text, 2, 4294967295);
-        return sample_of(bits, n);
-    }
-    Line::WrongCount
-}
-
-fn register_of(group: Number, number: Number, room: Number) -> Line
-    ensures { λ r. ⌜ r ≡ registerOf group number room ⌝ }
-{
-    if group.ok & (number.ok & room.ok) {
-        return Line::Register(group.value, number.value, room.value);
-    }
-    Line::BadNumber
-}
-
-fn register_line(text: &[u8]) -> Line
-    ensures { λ r. ⌜ r ≡ registerLine (now (text .entry)) ⌝ }
-{
-    let count = words::count(text);
-    if count == 3 {
-        let group = number_at(text, 1, 4294967295);
-        let number = number_at(text, 2, 4294967295);
-        return register_of(
-            group,
-            number,
-            Number {
-                ok: true,
-                value: 13,
-            },
-        );
-    }
-    if count == 4 {
-        let group = number_at(text, 1, 4294967295);
-        let number = number_at(text, 2, 4294967295);
-        let room = number_at(text, 3, 4294967295);
-        return register_of(group, number, room);
-    }
-    Line::WrongCount
-}
-
-fn reading_of(m: Number, v: Signed, s: Number, q: Number) -> Line
-    requires { ⌜ (m .value ≤ 255) × (s .value ≤ 255) × (q .value ≤ 255) ⌝ }
-    ensures { λ r. ⌜ r ≡ readingOf m v s q ⌝ }
-{
-    if (m.ok & v.ok) & (s.ok & q.ok) {
-        return Line::Reading(m.value as u8, v.value, s.value as u8, q.value as u8);
-    }
-    Line::BadNumber
-}
-
-fn reading_line(text: &[u8]) -> Line
-    ensures { λ r. ⌜ r ≡ readingLine (now (text .entry)) ⌝ }
-{
-    if words::count(text) == 5 {
-        let m = number_at(text, 1, 255);
-        let v = signed_at(text, 2);
-        let s = number_at(text, 3, 255);
-        let q = number_at(text, 4, 255);
-        return reading_of(m, v, s, q);
-    }
-    Line::WrongCount
+    Line::Wrong(Mistake::Number(parameter))
 }
 
 // What is asked with one time.
@@ -200,51 +160,150 @@ fn with_time(what: Timed, time: u32) -> Line
     }
 }
 
+fn time_of(what: Timed, time: Number) -> Line
+    ensures { λ r. ⌜ r ≡ timeOf (withTime what) time ⌝ }
+{
+    if !time.ok {
+        return bad(Parameter::Seconds);
+    }
+    with_time(what, time.value)
+}
+
+// Samples of which the bits and the count are read.
+fn sample_of(bits: Number, n: Number) -> Line
+    requires { ⌜ bits .value ≤ 65535 ⌝ }
+    ensures { λ r. ⌜ r ≡ sampleOf bits n ⌝ }
+{
+    if !bits.ok {
+        return bad(Parameter::Bits);
+    }
+    if !n.ok {
+        return bad(Parameter::Count);
+    }
+    Line::Sample(bits.value as u16, n.value)
+}
+
+fn register_of(group: Number, number: Number, room: Number) -> Line
+    ensures { λ r. ⌜ r ≡ registerOf group number room ⌝ }
+{
+    if !group.ok {
+        return bad(Parameter::Group);
+    }
+    if !number.ok {
+        return bad(Parameter::Number);
+    }
+    if !room.ok {
+        return bad(Parameter::Room);
+    }
+    Line::Register(group.value, number.value, room.value)
+}
+
+fn reading_of(m: Number, v: Signed, s: Number, q: Number) -> Line
+    requires { ⌜ (m .value ≤ 255) × (s .value ≤ 255) × (q .value ≤ 255) ⌝ }
+    ensures { λ r. ⌜ r ≡ readingOf m v s q ⌝ }
+{
+    if !m.ok {
+        return bad(Parameter::Meter);
+    }
+    if !v.ok {
+        return bad(Parameter::Value);
+    }
+    if !s.ok {
+        return bad(Parameter::Status);
+    }
+    if !q.ok {
+        return bad(Parameter::Seq);
+    }
+    Line::Reading(m.value as u8, v.value, s.value as u8, q.value as u8)
+}
+
 fn time_line(what: Timed, text: &[u8]) -> Line
-    ensures { λ r. ⌜ r ≡ timeLine (withTime what) (now (text .entry)) ⌝ }
+    ensures { λ r. ⌜ r ≡ timeOf (withTime what) (number32 1 (now (text .entry))) ⌝ }
 {
-    if words::count(text) == 2 {
-        let n = number_at(text, 1, 4294967295);
-        if n.ok {
-            return with_time(what, n.value);
-        }
-        return Line::BadNumber;
-    }
-    Line::WrongCount
+    let time = number_at(text, 1, 4294967295);
+    time_of(what, time)
 }
 
-fn alone_line(line: Line, text: &[u8]) -> Line
-    ensures { λ r. ⌜ r ≡ aloneLine line (now (text .entry)) ⌝ }
+fn sample_line(text: &[u8]) -> Line
+    ensures { λ r. ⌜ r ≡ askedOf Command.Sample (now (text .entry)) ⌝ }
 {
-    if words::count(text) == 1 {
-        return line;
-    }
-    Line::WrongCount
+    let bits = number_at(text, 1, 65535);
+    let n = number_or(text, 2, 1);
+    sample_of(bits, n)
 }
 
+fn register_line(text: &[u8]) -> Line
+    ensures { λ r. ⌜ r ≡ askedOf Command.Register (now (text .entry)) ⌝ }
+{
+    let group = number_at(text, 1, 4294967295);
+    let number = number_at(text, 2, 4294967295);
+    let room = number_or(text, 3, 13);
+    register_of(group, number, room)
+}
+
+fn reading_line(text: &[u8]) -> Line
+    ensures { λ r. ⌜ r ≡ askedOf Command.Reading (now (text .entry)) ⌝ }
+{
+    let m = number_at(text, 1, 255);
+    let v = signed_at(text, 2);
+    let s = number_at(text, 3, 255);
+    let q = number_at(text, 4, 255);
+    reading_of(m, v, s, q)
+}
+
+// How many words a line of a command has.
+fn has_words(command: Command, count: usize) -> bool
+    ensures { λ r. ⌜ r ≡ hasWords command count ⌝ }
+{
+    match command {
+        Command::Start => count == 2,
+        Command::Sample => (count == 2) | (count == 3),
+        Command::Set => count == 2,
+        Command::Reading => count == 5,
+        Command::Reset => count == 1,
+        Command::Register => (count == 3) | (count == 4),
+        Command::Image => count == 1,
+        Command::Date => count == 2,
+        Command::Fleet => count == 1,
+    }
+}
+
+// What a line of a command asks, that has as many words.
 fn ask(command: Command, text: &[u8]) -> Line
-    ensures { λ r. ⌜ r ≡ asked command (now (text .entry)) ⌝ }
+    ensures { λ r. ⌜ r ≡ askedOf command (now (text .entry)) ⌝ }
 {
     match command {
         Command::Start => time_line(Timed::Start, text),
         Command::Sample => sample_line(text),
         Command::Set => time_line(Timed::Set, text),
         Command::Reading => reading_line(text),
-        Command::Reset => alone_line(Line::Reset, text),
+        Command::Reset => Line::Reset,
         Command::Register => register_line(text),
-        Command::Image => alone_line(Line::Image, text),
+        Command::Image => Line::Image,
         Command::Date => time_line(Timed::Date, text),
-        Command::Fleet => alone_line(Line::Fleet, text),
-        Command::Unknown => Line::Unknown,
+        Command::Fleet => Line::Fleet,
     }
 }
 
-// What a line asks.
-pub fn line_of(text: &[u8]) -> Line
-    ensures { λ r. ⌜ r ≡ lineMeans (now (text .entry)) ⌝ }
+fn ask_first(first: First, text: &[u8]) -> Line
+    ensures { λ r. ⌜ r ≡ asked first (now (text .entry)) ⌝ }
+{
+    match first {
+        First::Is(command) => {
+            if has_words(command, words::count(text)) {
+                return ask(command, text);
+            }
+            Line::Wrong(Mistake::Words(command))
+        }
+        First::Unknown => Line::Wrong(Mistake::Unknown),
+    }
+}
+
+fn text_of(text: &[u8]) -> Line
+    ensures { λ r. ⌜ r ≡ textMeans (now (text .entry)) ⌝ }
 {
     if 255 < text.len() {
-        return Line::TooLong;
+        return Line::Wrong(Mistake::TooLong);
     }
     if text.len() == 0 {
         return Line::Nothing;
@@ -252,7 +311,13 @@ pub fn line_of(text: &[u8]) -> Line
     if text[0] == b'#' {
         return Line::Nothing;
     }
-    let first = words::word(text, 0);
-    let command = command_of(first);
-    ask(command, text)
+    let first = command_of(words::word(text, 0));
+    ask_first(first, text)
+}
+
+// What a line asks. A carriage return at its end is no part of it.
+pub fn line_of(text: &[u8]) -> Line
+    ensures { λ r. ⌜ r ≡ lineMeans (now (text .entry)) ⌝ }
+{
+    text_of(words::without_return(text))
 }

@@ -2,8 +2,23 @@
 ghost use mathlib.Core.Path.{_≡_};
 ghost use Prim.Native.Nat.{_+_, _≤_};
 ghost use lib.ListN.{length, drop};
-ghost use Rattle.lines.specs.Words.{words, blankAt, same};
+ghost use Rattle.lines.specs.Words.{withoutReturn, words, blankAt, same};
 ghost use Rattle.lines.specs.Words.{word as Words·word};
+
+// A line without the carriage return that may stand at its end.
+pub(crate) fn without_return(text: &[u8]) -> &[u8]
+    ensures { λ r. ⌜ now r ≡ withoutReturn (now (text .entry)) ⌝ }
+{
+    let n = text.len();
+    if n == 0 {
+        return text;
+    }
+    let last = n - 1;
+    if text[last] == 13 {
+        return &text[..last];
+    }
+    text
+}
 
 // The place of the first blank from `from` on; the text's length where there is none.
 fn word_end(text: &[u8], from: usize) -> usize

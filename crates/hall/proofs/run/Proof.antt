@@ -8,7 +8,7 @@ use Rattle.hall.proofs.run.Statement.{statement}
 use Rattle.hall.proofs.run.Tie as tie
 
 abbrev Inv-loop : tie.InvT-loop
-Inv-loop image line₀ out₀ work₀ turns₀ line out work turns = (256 ≡ length line) × (65536 ≡ length out)
+Inv-loop image line₀ out₀ work₀ turns₀ line out work turns = (257 ≡ length line) × (65536 ≡ length out)
 
 abbrev μ-loop : tie.MeasureT-loop
 μ-loop image line₀ out₀ work₀ turns₀ line out work turns = turns

@@ -1,48 +1,44 @@
 -- `lines::ask` meets its contract: by the variants.
-use Rattle.lines.specs.Lines.{asked}
+use Rattle.lines.specs.Lines.{askedOf}
 use borrow.Author.Needs.{needs}
 use Rattle.lines.proofs.ask.Statement.{statement}
 use Rattle.lines.proofs.ask.Tie as tie
 
 returns : tie.Need-returns
-unfolding asked
+unfolding askedOf
 returns c = rw (c .time-line .ensures, c .before .enum-told .given .1)
 
 returns-2 : tie.Need-returns-2
-unfolding asked
+unfolding askedOf
 returns-2 c = rw (c .sample-line .ensures, c .before .enum-told2 .given .1)
 
 returns-3 : tie.Need-returns-3
-unfolding asked
+unfolding askedOf
 returns-3 c = rw (c .time-line2 .ensures, c .before .enum-told3 .given .1)
 
 returns-4 : tie.Need-returns-4
-unfolding asked
+unfolding askedOf
 returns-4 c = rw (c .reading-line .ensures, c .before .enum-told4 .given .1)
 
 returns-5 : tie.Need-returns-5
-unfolding asked
-returns-5 c = rw (c .alone-line .ensures, c .before .enum-told5 .given .1)
+unfolding askedOf
+returns-5 c = rw (c .enum-told5 .given .1)
 
 returns-6 : tie.Need-returns-6
-unfolding asked
+unfolding askedOf
 returns-6 c = rw (c .register-line .ensures, c .before .enum-told6 .given .1)
 
 returns-7 : tie.Need-returns-7
-unfolding asked
-returns-7 c = rw (c .alone-line2 .ensures, c .before .enum-told7 .given .1)
+unfolding askedOf
+returns-7 c = rw (c .enum-told7 .given .1)
 
 returns-8 : tie.Need-returns-8
-unfolding asked
+unfolding askedOf
 returns-8 c = rw (c .time-line3 .ensures, c .before .enum-told8 .given .1)
 
 returns-9 : tie.Need-returns-9
-unfolding asked
-returns-9 c = rw (c .alone-line3 .ensures, c .before .enum-told9 .given .1)
-
-returns-10 : tie.Need-returns-10
-unfolding asked
-returns-10 c = rw (c .enum-told10 .given .1)
+unfolding askedOf
+returns-9 c = rw (c .enum-told9 .given .1)
 
 pub ask-spec : {M : Type 1} → statement M
 ask-spec =
@@ -57,13 +53,9 @@ ask-spec =
     (λ c. search needs)
     (λ c κs. search needs)
     (λ c. search needs)
-    (λ c κs. search needs)
     (λ c. search needs)
     (λ c κs. search needs)
     (λ c. search needs)
-    (λ c κs. search needs)
-    (λ c. search needs)
-    (λ c κs. search needs)
     (λ c. search needs)
     (λ c κs. search needs)
     (λ c. search needs)
@@ -75,5 +67,4 @@ ask-spec =
     returns-6
     returns-7
     returns-8
-    returns-9
-    returns-10)
+    returns-9)

@@ -20,5 +20,6 @@ register-spec =
     slice-aggregate-read-register
     (λ c κs. search needs)
     (λ c κs. search needs)
+    (λ c κs. search needs)
     (λ c. search needs)
     (λ c. search needs))

@@ -1,4 +1,4 @@
--- `hall::output::put_text` is safe and ends: the place is at most the length.
+-- `hall::output::put_text` is safe and ends: the place is at most 256, and the buffer keeps its length.
 use Prim.Native.Nat.{_≤_, _-_}
 use borrow.Author.Needs.{needs}
 use lib.ListN.{length}
@@ -7,10 +7,10 @@ use Rattle.hall.proofs.output.put_text.Statement.{statement}
 use Rattle.hall.proofs.output.put_text.Tie as tie
 
 abbrev Inv-loop : tie.InvT-loop
-Inv-loop out₀ at text next₀ i₀ i-end out next i = (i ≤ i-end) × (i-end ≡ length text) × (length out₀ ≡ length out)
+Inv-loop out₀ at text letters next₀ i₀ out next i = (i ≤ 256) × (length letters ≡ 256) × (length out₀ ≡ length out)
 
 abbrev μ-loop : tie.MeasureT-loop
-μ-loop out₀ at text next₀ i₀ i-end out next i = i-end - i
+μ-loop out₀ at text letters next₀ i₀ out next i = 256 - i
 
 pub put-text-spec : {M : Type 1} → statement M
 put-text-spec =
@@ -18,6 +18,8 @@ put-text-spec =
     (tie.spec
     Inv-loop
     μ-loop
+    (λ c. search needs)
+    (λ c. search needs)
     (λ c. search needs)
     (λ c. search needs)
     (λ c κs. search needs)

@@ -1,0 +1,124 @@
+-- Laws of texts (specs/Texts.antt) and of numbers in letters (specs/Numbers.antt): turns of the loops, and digits that are enough.
+use mathlib.Core.Path.{_≡_, refl, sym, ap, _∙_}
+use mathlib.Core.Bool.{true, false, true≢false}
+use mathlib.Core.List.{List, [], _∷_, _++_, append-nil}
+use Prim.Native.Nat.{ℕ, zero, suc, _+_, _-_, _*_, _/_, _^_, _<_, _≤_}
+use native.Mathlib.Nat.{pow-suc, lt-trans, not-suc-le-zero}
+use borrow.Author.Tests.{lt-ltb, le-ltb, ltb-true, le-leb, lt-leb}
+use native.Mathlib.Numerals.{add-one}
+use native.Mathlib.Omega.{arith}
+use lib.Dec.{ltb, lit<}
+use lib.IntN.{ℤ, pos, negsuc}
+use lib.Signed.{mag, ltZ}
+use lib.ListN.{length, getD, take, drop, length-drop, drop-of-length-le, List·getD-eq-default}
+use lib.Seq.{drop-cons, take-all}
+use mir.Syntax.{w64}
+use mir.Val.{ofZ}
+use Rattle.laws.proofs.Tests.{by-test}
+use Rattle.laws.specs.Answers.{given}
+use Rattle.lines.specs.Words.{letters}
+use Rattle.answers.specs.declared.Text.{Text}
+use Rattle.answers.specs.Texts.{withByte, withBytes}
+use Rattle.answers.specs.Numbers.{digit, decimalIn, decimalOf, signedOf, hexDigit, hexOf}
+use Rattle.answers.specs.Answers.{lineEnd, imagePart, weekdayNames, weekdayName}
+
+-- letters after letters
+pub split : (t : Text) (a b : List ℕ) → withBytes t (a ++ b) ≡ withBytes (withBytes t a) b
+unfolding withBytes
+split t [] b = refl
+split t (x ∷ a) b = split (withByte t x) a b
+
+module _ (t : Text) (l : List ℕ) (i : ℕ) where
+  -- a turn of the loop over letters: one fewer is left
+  pub bytes-turn : i < length l → withBytes t (drop i l) ≡ withBytes (withByte t (getD l i 0)) (drop (i + 1) l)
+  unfolding withBytes
+  bytes-turn h = rw (add-one i, drop-cons l i 0)
+
+  -- none is left
+  pub bytes-done : length l ≤ i → withBytes t (drop i l) ≡ t
+  unfolding withBytes
+  bytes-done h = rw (drop-of-length-le l h)
+
+  -- a turn of the loop over bytes in hexadecimal
+  pub hex-turn : i < length l
+      → withBytes t (hexOf (drop i l)) ≡ withBytes (withByte (withByte t (hexDigit (getD l i 0 / 16))) (hexDigit (getD l i 0))) (hexOf (drop (i + 1) l))
+  unfolding withBytes hexOf
+  hex-turn h = rw (add-one i, drop-cons l i 0)
+
+  -- none is left
+  pub hex-done : length l ≤ i → withBytes t (hexOf (drop i l)) ≡ t
+  unfolding withBytes hexOf
+  hex-done h = rw (drop-of-length-le l h)
+
+-- a number below 10 is one digit
+one-digit : (k n : ℕ) → n < 10 → decimalIn (suc k) n ≡ digit n ∷ []
+unfolding decimalIn
+one-digit k n h = rw (lt-ltb n 10 h)
+
+-- one place more than a number has digits changes nothing
+more-places : (k n : ℕ) → n < 10 ^ suc k → decimalIn (suc k) n ≡ decimalIn (suc (suc k)) n
+unfolding decimalIn
+more-places zero n h = let s : n < 10 = h in rw (lt-ltb n 10 s)
+more-places (suc k) n h =
+    let g : n < 10 ^ suc k * 10 = rw (pow-suc 10 (suc k)) at h in
+    let s : n / 10 < 10 ^ suc k = omega arith in
+    by-test (ltb n 10) (λ e. rw e) (λ e. rw (e, more-places k (n / 10) s))
+
+-- a longer number
+longer : (k n : ℕ) → 10 ≤ n → decimalIn (suc k) n ≡ decimalIn k (n / 10) ++ (digit n ∷ [])
+unfolding decimalIn
+longer k n h = rw (le-ltb n 10 h)
+
+-- any other is the number without its last digit, and that digit
+last-digit : (k n : ℕ) → 10 ≤ n → n < 10 ^ suc (suc k) → decimalIn (suc (suc k)) n ≡ decimalIn (suc (suc k)) (n / 10) ++ (digit n ∷ [])
+last-digit k n h g =
+    let l : n < 10 ^ suc k * 10 = rw (pow-suc 10 (suc k)) at g in
+    let s : n / 10 < 10 ^ suc k = omega arith in
+    rw (← more-places k (n / 10) s) (longer (suc k) n h)
+
+-- the same of a number of 64 bits
+module _ (n : ℕ) where
+  pub decimal-short : n < 10 → decimalOf n ≡ digit n ∷ []
+  unfolding decimalOf
+  decimal-short h = one-digit 19 n h
+
+  pub decimal-long : 10 ≤ n → n < 2 ^ 64 → decimalOf n ≡ decimalOf (n / 10) ++ (digit n ∷ [])
+  unfolding decimalOf
+  decimal-long h g = last-digit 18 n h (lt-trans g (lit< tt))
+
+-- a negative number: the minus, and what stands behind it
+pub signed-negative : (z : ℤ) → ltZ z (pos 0) ≡ true → signedOf z ≡ 45 ∷ decimalOf (mag z + 1)
+unfolding signedOf
+signed-negative (pos n) t = absurd (not-suc-le-zero (ltb-true n 0 t))
+signed-negative (negsuc n) t = rw (add-one n)
+
+-- any other: its bits are the number
+pub signed-natural : (z : ℤ) → ltZ z (pos 0) ≡ false → signedOf z ≡ decimalOf (ofZ w64 z)
+unfolding signedOf
+signed-natural (pos n) t = refl
+signed-natural (negsuc n) t = absurd (true≢false t)
+
+-- no weekday before Sunday
+pub sunday : (d : ℕ) → 6 ≤ d → weekdayName d ≡ letters "Sunday"
+unfolding weekdayName
+sunday d h = List·getD-eq-default weekdayNames (letters "Sunday") h
+
+-- parts of the line of an image: past the bytes, the last, any other
+module _ (b : List ℕ) (from : ℕ) where
+  pub part-past : length b ≤ from → lineEnd ≡ imagePart (given tt) b from
+  unfolding imagePart hexOf
+  part-past h = let g : length b ≤ from + 128 = omega arith in rw (drop-of-length-le b h, le-leb _ _ g)
+
+  pub part-last : length b - from ≤ 128 → hexOf (take (length b - from) (drop from b)) ++ lineEnd ≡ imagePart (given tt) b from
+  unfolding imagePart
+  part-last h =
+      let g : length b ≤ from + 128 = omega arith in
+      let l : length (drop from b) ≡ length b - from = length-drop from b in
+      rw (le-leb _ _ g, take-all (length b - from) (drop from b) (omega arith), take-all 128 (drop from b) (omega arith))
+
+  pub part-more : 128 < length b - from → hexOf (take (from + 128 - from) (drop from b)) ≡ imagePart (given tt) b from
+  unfolding imagePart
+  part-more h =
+      let g : from + 128 < length b = omega arith in
+      let n : from + 128 - from ≡ 128 = omega arith in
+      rw (lt-leb _ _ g, n, append-nil)

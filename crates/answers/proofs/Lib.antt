@@ -1,0 +1,3 @@
+-- What the proofs of this crate share: the laws of texts, of numbers in letters and of the lines; that no second result fits.
+pub mod Laws
+pub mod Unique

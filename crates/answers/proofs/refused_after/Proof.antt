@@ -1,0 +1,25 @@
+-- `answers::refused_after` meets its contract: letters, the number, letters, the count, the end.
+use Rattle.answers.proofs.Laws.{split}
+use Rattle.lines.specs.Words.{letters}
+use Rattle.answers.specs.Texts.{withBytes}
+use borrow.Author.Needs.{needs}
+use Rattle.answers.proofs.refused_after.Statement.{statement}
+use Rattle.answers.proofs.refused_after.Tie as tie
+
+returns : tie.Need-returns
+unfolding letters withBytes
+returns c = rw (c .with-byte .ensures, c .before .with-number2 .ensures, c .before .before .with-bytes2 .ensures, c .before .before .before .before .with-number .ensures, c .before .before .before .before .before .with-bytes .ensures, c .before .before .before .before .before .before .before .blank .ensures) (simp split)
+
+pub refused-after-spec : {M : Type 1} → statement M
+refused-after-spec =
+    tie.close
+    (tie.spec
+    (λ c κs. search needs)
+    (λ c. search needs)
+    (λ c κs. search needs)
+    (λ c κs. search needs)
+    (λ c. search needs)
+    (λ c κs. search needs)
+    (λ c κs. search needs)
+    (λ c κs. search needs)
+    returns)

@@ -1,0 +1,42 @@
+-- What is wrong with a line, and what would be right there.
+use mathlib.Core.List.{List}
+use Prim.Native.Nat.{ℕ}
+use Rattle.lines.specs.Words.{letters}
+use Rattle.lines.specs.declared.Mistake.{Mistake}
+use Rattle.lines.specs.declared.Mistake.the-variants as mistake
+use Rattle.lines.specs.declared.Command.{Command}
+use Rattle.lines.specs.declared.Command.the-variants as command
+use Rattle.lines.specs.declared.Parameter.{Parameter}
+use Rattle.lines.specs.declared.Parameter.the-variants as parameter
+
+-- the words that a command needs
+unfoldable pub wordsText : Command → List ℕ
+wordsText command.Start = letters "start needs SECONDS"
+wordsText command.Sample = letters "sample needs BITS or BITS COUNT"
+wordsText command.Set = letters "set needs SECONDS"
+wordsText command.Reading = letters "reading needs METER VALUE STATUS SEQ"
+wordsText command.Reset = letters "reset stands alone"
+wordsText command.Register = letters "register needs GROUP NUMBER or GROUP NUMBER ROOM"
+wordsText command.Image = letters "image stands alone"
+wordsText command.Date = letters "date needs SECONDS"
+wordsText command.Fleet = letters "fleet stands alone"
+
+-- the numbers that a parameter can be
+unfoldable pub numbersText : Parameter → List ℕ
+numbersText parameter.Seconds = letters "SECONDS is not a number from 0 to 4294967295"
+numbersText parameter.Bits = letters "BITS is not a number from 0 to 65535"
+numbersText parameter.Count = letters "COUNT is not a number from 0 to 4294967295"
+numbersText parameter.Meter = letters "METER is not a number from 0 to 255"
+numbersText parameter.Value = letters "VALUE is not a number from -2147483648 to 2147483647"
+numbersText parameter.Status = letters "STATUS is not a number from 0 to 255"
+numbersText parameter.Seq = letters "SEQ is not a number from 0 to 255"
+numbersText parameter.Group = letters "GROUP is not a number from 0 to 4294967295"
+numbersText parameter.Number = letters "NUMBER is not a number from 0 to 4294967295"
+numbersText parameter.Room = letters "ROOM is not a number from 0 to 4294967295"
+
+-- what is wrong with a line
+unfoldable pub mistakeText : Mistake → List ℕ
+mistakeText mistake.TooLong = letters "longer than 255 bytes"
+mistakeText mistake.Unknown = letters "no such command"
+mistakeText (mistake.Words c) = wordsText c
+mistakeText (mistake.Number p) = numbersText p

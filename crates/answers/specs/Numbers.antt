@@ -1,0 +1,37 @@
+-- Numbers in letters.
+use mathlib.Core.List.{List, [], _∷_, _++_}
+use Prim.Native.Nat.{ℕ, zero, suc, _+_, _-_, _/_, _%_}
+use lib.Dec.{ltb}
+use lib.IntN.{ℤ, pos, negsuc}
+use Rattle.laws.specs.If.{if_then_else_}
+
+-- the last decimal digit of a number; 48 is 0
+abbrev pub digit : ℕ → ℕ
+digit n = 48 + n % 10
+
+-- a number of at most k digits in decimal, with no zero in front: one digit, or the number without its last digit, and that digit
+unfoldable pub decimalIn : ℕ → ℕ → List ℕ
+decimalIn zero n = []
+decimalIn (suc k) n = if ltb n 10 then digit n ∷ [] else decimalIn k (n / 10) ++ (digit n ∷ [])
+
+-- a number of 64 bits in decimal: it has at most 20 digits
+unfoldable pub decimalOf : ℕ → List ℕ
+decimalOf n = decimalIn 20 n
+
+-- a number with a sign in decimal; 45 is the minus
+unfoldable pub signedOf : ℤ → List ℕ
+signedOf (pos n) = decimalOf n
+signedOf (negsuc n) = 45 ∷ decimalOf (suc n)
+
+-- the last two decimal digits
+abbrev pub twoDigits : ℕ → List ℕ
+twoDigits n = digit (n / 10) ∷ digit n ∷ []
+
+-- the last hexadecimal digit of a number; 97 is a
+abbrev pub hexDigit : ℕ → ℕ
+hexDigit n = if ltb (n % 16) 10 then 48 + n % 16 else 87 + n % 16
+
+-- bytes in hexadecimal, two digits for each
+unfoldable pub hexOf : List ℕ → List ℕ
+hexOf [] = []
+hexOf (b ∷ rest) = hexDigit (b / 16) ∷ hexDigit b ∷ hexOf rest

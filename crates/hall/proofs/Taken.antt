@@ -1,0 +1,18 @@
+-- A run takes no more samples than it is given.
+use mathlib.Core.List.{List, [], _∷_}
+use Prim.Native.Nat.{ℕ, suc, _≤_, zero-le, suc-le-suc}
+use lib.ListN.{length}
+use Rattle.laws.specs.Answers.{Answer, given, refused}
+use Rattle.settings.specs.declared.Config.{Config}
+use Rattle.sampling.specs.declared.State.{State}
+use Rattle.sampling.specs.Samples.{Run, onward, sampleOf, samplesOf}
+
+-- one sample more, if it is taken
+one-more : (s : State) (a : Answer State) (rest : State → Run) (n : ℕ) → ((next : State) → rest next .taken ≤ n) → onward s a rest .taken ≤ suc n
+one-more s (given next) rest n h = suc-le-suc (h next)
+one-more s (refused m offset) rest n h = zero-le
+
+pub taken-le : (c : Config) (s : State) (bits : List ℕ) → samplesOf c s bits .taken ≤ length bits
+unfolding samplesOf
+taken-le c s [] = zero-le
+taken-le c s (b ∷ more) = one-more s (sampleOf c s b) (λ next. samplesOf c next more) (length more) (λ next. taken-le c next more)

@@ -32,7 +32,10 @@ fn with_numbers(text: Text, parameter: Parameter) -> Text
         Parameter::Bits => with_bytes(text, b"BITS is not a number from 0 to 65535"),
         Parameter::Count => with_bytes(text, b"COUNT is not a number from 0 to 4294967295"),
         Parameter::Meter => with_bytes(text, b"METER is not a number from 0 to 255"),
-        Parameter::Value => with_bytes(text, b"VALUE is not a number from -2147483648 to 2147483647"),
+        Parameter::Value => with_bytes(
+            text,
+            b"VALUE is not a number from -2147483648 to 2147483647",
+        ),
         Parameter::Status => with_bytes(text, b"STATUS is not a number from 0 to 255"),
         Parameter::Seq => with_bytes(text, b"SEQ is not a number from 0 to 255"),
         Parameter::Group => with_bytes(text, b"GROUP is not a number from 0 to 4294967295"),

@@ -58,7 +58,11 @@ fn take_piece(recorder: Recorder, bits: u16, n: usize) -> SampleRun
 }
 
 fn is_taken(answer: SampleAnswer) -> bool {
-    if let SampleAnswer::Taken = answer { true } else { false }
+    if let SampleAnswer::Taken = answer {
+        true
+    } else {
+        false
+    }
 }
 
 // In pieces of 512, to the first refusal.
@@ -91,7 +95,12 @@ fn sample(desk: Desk, out: &mut [u8], bits: u16, count: u32) -> Desk {
     let counted = take_samples(before, bits, count);
     let answer = counted.answer;
     let recorder = counted.recorder;
-    said(recorder, out, desk.at, answers::samples_line(answer, counted.taken))
+    said(
+        recorder,
+        out,
+        desk.at,
+        answers::samples_line(answer, counted.taken),
+    )
 }
 
 fn set(desk: Desk, out: &mut [u8], time: u32) -> Desk {
@@ -128,7 +137,12 @@ fn register(desk: Desk, out: &mut [u8], group: u32, number: u32, room: u32) -> D
     let n = room_of(room);
     let mut bytes = [0u8; 13];
     let answer = registers::read_register(recorder, group, number, &mut bytes[..n]);
-    said(recorder, out, desk.at, answers::register_line(answer, bytes))
+    said(
+        recorder,
+        out,
+        desk.at,
+        answers::register_line(answer, bytes),
+    )
 }
 
 // The image's line, part by part.
@@ -141,7 +155,7 @@ fn write_image(desk: Desk, out: &mut [u8]) -> Desk {
     let mut from = 0;
     while from < 1126 {
         at = put_text(out, at, answers::image_part(answer, &image, from));
-        from += 128;
+        from += 100;
     }
     Desk { recorder, at }
 }

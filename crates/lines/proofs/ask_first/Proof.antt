@@ -6,13 +6,13 @@ use Rattle.lines.proofs.ask_first.Tie as tie
 
 returns : tie.Need-returns
 unfolding asked
-returns c = 
+returns c =
     let k = c .before .before in
     rw (k .before .before .before .first .given .1, ← k .before .count .ensures, ← k .has-words .ensures, c .before .if1 .taken, c .ask .ensures)
 
 returns-2 : tie.Need-returns-2
 unfolding asked
-returns-2 c = 
+returns-2 c =
     let k = c .before in
     rw (k .before .before .before .first .given .1, ← k .before .count .ensures, ← k .has-words .ensures, c .if1 .left)
 

@@ -15,13 +15,13 @@ returns-2 c = rw (le-ltb 255 _ (c .before .if1 .left), eq-eqb _ 0 (c .if2 .taken
 
 returns-3 : tie.Need-returns-3
 unfolding textMeans
-returns-3 c = 
+returns-3 c =
     let k = c .before .before in
     rw (le-ltb 255 _ (k .before .if1 .left), ne-eqb _ 0 (k .if2 .left), eq-eqb _ 35 (c .if3 .taken))
 
 returns-4 : tie.Need-returns-4
 unfolding textMeans
-returns-4 c = 
+returns-4 c =
     let l = c .before .before .before in
     let k = l .before .before in
     rw (

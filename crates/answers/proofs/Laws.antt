@@ -107,18 +107,18 @@ sunday d h = List·getD-eq-default weekdayNames (letters "Sunday") h
 module _ (b : List ℕ) (from : ℕ) where
   pub part-past : length b ≤ from → lineEnd ≡ imagePart (given tt) b from
   unfolding imagePart hexOf
-  part-past h = let g : length b ≤ from + 128 = omega arith in rw (drop-of-length-le b h, le-leb _ _ g)
+  part-past h = let g : length b ≤ from + 100 = omega arith in rw (drop-of-length-le b h, le-leb _ _ g)
 
-  pub part-last : length b - from ≤ 128 → hexOf (take (length b - from) (drop from b)) ++ lineEnd ≡ imagePart (given tt) b from
+  pub part-last : length b - from ≤ 100 → hexOf (take (length b - from) (drop from b)) ++ lineEnd ≡ imagePart (given tt) b from
   unfolding imagePart
   part-last h =
-      let g : length b ≤ from + 128 = omega arith in
+      let g : length b ≤ from + 100 = omega arith in
       let l : length (drop from b) ≡ length b - from = length-drop from b in
-      rw (le-leb _ _ g, take-all (length b - from) (drop from b) (omega arith), take-all 128 (drop from b) (omega arith))
+      rw (le-leb _ _ g, take-all (length b - from) (drop from b) (omega arith), take-all 100 (drop from b) (omega arith))
 
-  pub part-more : 128 < length b - from → hexOf (take (from + 128 - from) (drop from b)) ≡ imagePart (given tt) b from
+  pub part-more : 100 < length b - from → hexOf (take (from + 100 - from) (drop from b)) ≡ imagePart (given tt) b from
   unfolding imagePart
   part-more h =
-      let g : from + 128 < length b = omega arith in
-      let n : from + 128 - from ≡ 128 = omega arith in
+      let g : from + 100 < length b = omega arith in
+      let n : from + 100 - from ≡ 100 = omega arith in
       rw (lt-leb _ _ g, n, append-nil)

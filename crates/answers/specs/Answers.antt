@@ -59,9 +59,9 @@ imageLine (refused n offset) image = refusedAt n offset
 abbrev pub endAfter : List ℕ → ℕ → List ℕ
 endAfter image to = if leb (length image) to then lineEnd else []
 
--- the part of that line from a byte on: 128 bytes, or those that are left and the end; a refusal stands at 0
+-- the part of that line from a byte on: 100 bytes, or those that are left and the end; a refusal stands at 0
 unfoldable pub imagePart : Answer (Unit {0}) → List ℕ → ℕ → List ℕ
-imagePart (given u) image from = hexOf (take 128 (drop from image)) ++ endAfter image (from + 128)
+imagePart (given u) image from = hexOf (take 100 (drop from image)) ++ endAfter image (from + 100)
 imagePart (refused n offset) image from = if eqb from 0 then refusedAt n offset else []
 
 -- the weekdays before Sunday

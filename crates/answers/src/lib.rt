@@ -140,17 +140,17 @@ pub fn register_line(answer: RegisterAnswer, bytes: [u8; 13]) -> Text
     }
 }
 
-// At most 128 bytes from a place on, and the line's end behind the last.
+// At most 100 bytes from a place on, and the line's end behind the last.
 fn hex_part(bytes: &[u8], from: usize) -> Text
     ensures { λ r. ⌜ r ≡ asText (imagePart (given tt) (now (bytes .entry)) from) ⌝ }
 {
     if bytes.len() <= from {
         return with_byte(texts::blank(), b'\n');
     }
-    if bytes.len() - from <= 128 {
+    if bytes.len() - from <= 100 {
         return hex_line(&bytes[from..]);
     }
-    let to = from + 128;
+    let to = from + 100;
     with_hex(texts::blank(), &bytes[from..to])
 }
 
@@ -164,7 +164,7 @@ fn refused_part(number: u64, offset: usize, from: usize) -> Text
     texts::blank()
 }
 
-// The line of an image, in parts: from byte 0 on, from byte 128 on, and so to the last.
+// The line of an image, in parts: from byte 0 on, from byte 100 on, and so to the last.
 pub fn image_part(answer: WriteAnswer, image: &[u8], from: usize) -> Text
     ensures { λ r. ⌜ r ≡ asText (imagePart (writeSaid answer) (now (image .entry)) from) ⌝ }
 {

@@ -173,7 +173,7 @@ fn moments(rounds: u32) {
     write_number(sum);
 }
 
-pub fn run(letter: u8, image: [u8; 1126], bits: [u16; 1000], rounds: u32) {
+pub(crate) fn run(letter: u8, image: [u8; 1126], bits: [u16; 1000], rounds: u32) {
     match letter {
         b's' => samples(started(image), bits, rounds),
         b'o' => singles(started(image), bits, rounds),

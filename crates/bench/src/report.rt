@@ -3,7 +3,7 @@ use libc::STDOUT_FILENO;
 use recorder::Recorder;
 use registers::RegisterAnswer;
 
-pub fn write_number(n: u64) {
+pub(crate) fn write_number(n: u64) {
     io::print_decimal(STDOUT_FILENO, n);
     io::write_all(STDOUT_FILENO, b"\n");
 }
@@ -37,7 +37,7 @@ fn write_group(recorder: Recorder, group: u32, registers: u32) {
     }
 }
 
-pub fn write_registers(recorder: Recorder) {
+pub(crate) fn write_registers(recorder: Recorder) {
     write_group(recorder, 82, 32);
     write_group(recorder, 89, 1);
     write_group(recorder, 90, 32);

@@ -8,6 +8,7 @@ use Rattle.sampling.proofs.Unique as sampling
 use Rattle.recorder.proofs.Unique as recorder
 use Rattle.registers.proofs.Unique as registers
 use Rattle.lines.proofs.Unique as lines
+use Rattle.answers.proofs.Unique as answers
 use Rattle.host.proofs.Unique as host
 use Rattle.demands.specs.Tightness.{Tight}
 
@@ -66,6 +67,16 @@ tight =
       registers-read-register = (registers.read-register-once, (registers.read-register-exit, λ κs args. tt));
       registers-fleet-of = (registers.fleet-of-once, λ κs args. tt);
       lines-line-of = (lines.line-of, λ κs args. tt);
+      answers-ok = (answers.ok, λ κs args. tt);
+      answers-start-line = (answers.start-line, λ κs args. tt);
+      answers-samples-line = (answers.samples-line, λ κs args. tt);
+      answers-set-line = (answers.set-line, λ κs args. tt);
+      answers-reading-line = (answers.reading-line, λ κs args. tt);
+      answers-register-line = (answers.register-line, λ κs args. tt);
+      answers-image-part = (answers.image-part, λ κs args. tt);
+      answers-date-line = (answers.date-line, λ κs args. tt);
+      answers-fleet-line = (answers.fleet-line, λ κs args. tt);
+      answers-error-line = (answers.error-line, λ κs args. tt);
       host-recorder-image-check = (host.image-check, λ κs args. tt);
       host-recorder-calendar = (host.calendar, λ κs args. tt);
       host-recorder-age-class = (host.age-class, λ κs args. tt);

@@ -56,6 +56,16 @@ use Rattle.recorder.proofs.age_answer.Reads as recorder-age-answer
 use Rattle.registers.proofs.read_register.Reads as registers-read-register
 use Rattle.registers.proofs.fleet_of.Reads as registers-fleet-of
 use Rattle.lines.proofs.line_of.Reads as lines-line-of
+use Rattle.answers.proofs.ok.Reads as answers-ok
+use Rattle.answers.proofs.start_line.Reads as answers-start-line
+use Rattle.answers.proofs.samples_line.Reads as answers-samples-line
+use Rattle.answers.proofs.set_line.Reads as answers-set-line
+use Rattle.answers.proofs.reading_line.Reads as answers-reading-line
+use Rattle.answers.proofs.register_line.Reads as answers-register-line
+use Rattle.answers.proofs.image_part.Reads as answers-image-part
+use Rattle.answers.proofs.date_line.Reads as answers-date-line
+use Rattle.answers.proofs.fleet_line.Reads as answers-fleet-line
+use Rattle.answers.proofs.error_line.Reads as answers-error-line
 use Rattle.host.proofs.recorder_image_check.Reads as host-recorder-image-check
 use Rattle.host.proofs.recorder_calendar.Reads as host-recorder-calendar
 use Rattle.host.proofs.recorder_age_class.Reads as host-recorder-age-class
@@ -141,6 +151,17 @@ pub record Tight : Type 1 where
   pub registers-fleet-of : Alone registers-fleet-of.Post registers-fleet-of.Asked
   -- crate lines
   pub lines-line-of : Alone lines-line-of.Post lines-line-of.Asked
+  -- crate answers
+  pub answers-ok : Alone answers-ok.Post answers-ok.Asked
+  pub answers-start-line : Alone answers-start-line.Post answers-start-line.Asked
+  pub answers-samples-line : Alone answers-samples-line.Post answers-samples-line.Asked
+  pub answers-set-line : Alone answers-set-line.Post answers-set-line.Asked
+  pub answers-reading-line : Alone answers-reading-line.Post answers-reading-line.Asked
+  pub answers-register-line : Alone answers-register-line.Post answers-register-line.Asked
+  pub answers-image-part : Alone answers-image-part.Post answers-image-part.Asked
+  pub answers-date-line : Alone answers-date-line.Post answers-date-line.Asked
+  pub answers-fleet-line : Alone answers-fleet-line.Post answers-fleet-line.Asked
+  pub answers-error-line : Alone answers-error-line.Post answers-error-line.Asked
   -- crate host
   pub host-recorder-image-check : Alone host-recorder-image-check.Post host-recorder-image-check.Asked
   pub host-recorder-calendar : Alone host-recorder-calendar.Post host-recorder-calendar.Asked

@@ -155,7 +155,7 @@ fn write_image(desk: Desk, out: &mut [u8]) -> Desk {
     let mut from = 0;
     while from < 1126 {
         at = put_text(out, at, answers::image_part(answer, &image, from));
-        from += 128;
+        from += 100;
     }
     Desk { recorder, at }
 }

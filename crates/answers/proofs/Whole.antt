@@ -1,0 +1,208 @@
+-- The laws of specs/Laws.antt.
+use mathlib.Core.Path.{_≡_, refl, sym, ap, _∙_}
+use mathlib.Core.List.{List, [], _∷_, _++_, append-assoc, append-nil}
+use Prim.Native.Nat.{ℕ, zero, suc, _+_, _-_, _*_, _/_, _≤_, _<_}
+use native.Mathlib.Omega.{arith}
+use borrow.Author.Tests.{lt-ltb, le-leb, lt-leb}
+use lib.Dec.{ltb, eqb, leb}
+use lib.IntN.{ℤ, pos, negsuc}
+use lib.ListN.{length, replicate, set, take, drop, length-append, length-take, length-drop, take-append-drop}
+use lib.Seq.{set-append-seam, append-snoc, take-all, drop-drop}
+use Rattle.laws.proofs.If.{if-cases}
+use Rattle.laws.proofs.Tests.{by-test}
+use Rattle.laws.specs.Answers.{Answer, given, refused}
+use Rattle.lines.specs.Words.{letters}
+use Rattle.lines.specs.declared.Mistake.{Mistake}
+use Rattle.lines.specs.declared.Mistake.the-variants as mistake
+use Rattle.lines.specs.declared.Command.{Command}
+use Rattle.lines.specs.declared.Command.the-variants as command
+use Rattle.lines.specs.declared.Parameter.{Parameter}
+use Rattle.lines.specs.declared.Parameter.the-variants as parameter
+use Rattle.calendar.specs.declared.Moment.{Moment}
+use Rattle.registers.specs.declared.fleet.Fleet.{Fleet}
+use Rattle.answers.specs.declared.Text.{Text}
+use Rattle.answers.specs.Texts.{withByte, withBytes, asText}
+use Rattle.answers.specs.Numbers.{decimalIn, decimalOf, signedOf, hexOf}
+use Rattle.answers.specs.Errors.{wordsText, numbersText, mistakeText}
+use Rattle.answers.specs.Answers.{lineEnd, okLine, refusedLine, refusedAt, refusedAfter, startLine, registerLine, imagePart, weekdayName, dateLine, fleetLine, errorLine}
+use Rattle.answers.specs.Laws.{TextIs, Fits, NoneCut, partsFrom, PartsJoin}
+
+-- letters with zeros behind them
+abbrev filled : List ℕ → Text
+filled p = record { bytes = p ++ replicate (256 - length p) 0; length = length p }
+
+-- one letter more
+fill-byte : (p : List ℕ) (b : ℕ) → length p < 256 → withByte (filled p) b ≡ filled (p ++ (b ∷ []))
+unfolding withByte
+fill-byte p b h =
+    let n : length (p ++ (b ∷ [])) ≡ suc (length p) = length-append p (b ∷ []) ∙ (omega arith) in
+    let r : 256 - length p ≡ suc (256 - suc (length p)) = omega arith in
+    let l : length p + 1 ≡ suc (length p) = omega arith in
+    rw (lt-ltb _ 256 h, n, r, l, set-append-seam p 0 (replicate (256 - suc (length p)) 0) b, append-snoc p b (replicate (256 - suc (length p)) 0))
+
+-- letters one after another
+fill-bytes : (p l : List ℕ) → length p + length l ≤ 256 → withBytes (filled p) l ≡ filled (p ++ l)
+unfolding withBytes
+fill-bytes p [] h = rw append-nil
+fill-bytes p (b ∷ l) h =
+    let n : length (p ++ (b ∷ [])) ≡ suc (length p) = length-append p (b ∷ []) ∙ (omega arith) in
+    rw (fill-byte p b (omega arith)) (fill-bytes (p ++ (b ∷ [])) l (omega arith) ∙ rw (append-snoc p b l))
+
+pub text-is : TextIs
+text-is l h = fill-bytes [] l (omega arith)
+
+-- a number has at most as many digits as places
+places : (k n : ℕ) → length (decimalIn k n) ≤ k
+unfolding decimalIn
+places zero n = omega arith
+places (suc k) n =
+    let h = places k (n / 10) in
+    by-test (ltb n 10) (λ e. rw e (omega arith)) (λ e. rw (e, length-append) (omega arith))
+
+digits : (n : ℕ) → length (decimalOf n) ≤ 20
+unfolding decimalOf
+digits n = places 20 n
+
+sign : (z : ℤ) → length (signedOf z) ≤ 21
+unfolding signedOf
+sign (pos n) = let h = digits n in omega arith
+sign (negsuc n) = let h = digits (suc n) in omega arith
+
+-- two digits for each byte
+hex-length : (l : List ℕ) → length (hexOf l) ≡ 2 * length l
+unfolding hexOf
+hex-length [] = refl
+hex-length (b ∷ l) = let h = hex-length l in omega arith
+
+-- the names of weekdays
+name : (d : ℕ) → length (weekdayName d) ≤ 9
+unfolding weekdayName letters
+name zero = omega arith
+name (suc zero) = omega arith
+name (suc (suc zero)) = omega arith
+name (suc (suc (suc zero))) = omega arith
+name (suc (suc (suc (suc zero)))) = omega arith
+name (suc (suc (suc (suc (suc zero))))) = omega arith
+name (suc (suc (suc (suc (suc (suc d)))))) = omega arith
+
+-- what is wrong with a line
+words-short : (c : Command) → length (wordsText c) ≤ 60
+unfolding wordsText letters
+words-short command.Start = omega arith
+words-short command.Sample = omega arith
+words-short command.Set = omega arith
+words-short command.Reading = omega arith
+words-short command.Reset = omega arith
+words-short command.Register = omega arith
+words-short command.Image = omega arith
+words-short command.Date = omega arith
+words-short command.Fleet = omega arith
+
+numbers-short : (p : Parameter) → length (numbersText p) ≤ 60
+unfolding numbersText letters
+numbers-short parameter.Seconds = omega arith
+numbers-short parameter.Bits = omega arith
+numbers-short parameter.Count = omega arith
+numbers-short parameter.Meter = omega arith
+numbers-short parameter.Value = omega arith
+numbers-short parameter.Status = omega arith
+numbers-short parameter.Seq = omega arith
+numbers-short parameter.Group = omega arith
+numbers-short parameter.Number = omega arith
+numbers-short parameter.Room = omega arith
+
+mistake-short : (m : Mistake) → length (mistakeText m) ≤ 60
+unfolding mistakeText letters
+mistake-short mistake.TooLong = omega arith
+mistake-short mistake.Unknown = omega arith
+mistake-short (mistake.Words c) = words-short c
+mistake-short (mistake.Number p) = numbers-short p
+
+-- a refusal
+refused-short : (n : ℕ) → Fits (refusedLine n)
+unfolding letters
+refused-short n = simp length-append (omega (arith, digits n))
+
+at-short : (n offset : ℕ) → Fits (refusedAt n offset)
+unfolding letters
+at-short n offset = simp length-append (omega (arith, digits n, digits offset))
+
+after-short : (n k : ℕ) → Fits (refusedAfter n k)
+unfolding letters
+after-short n k = simp length-append (omega (arith, digits n, digits k))
+
+ok-short : Fits okLine
+unfolding letters
+ok-short = omega arith
+
+start-short : (a : Answer (Unit {0})) → Fits (startLine a)
+start-short (given u) = ok-short
+start-short (refused n offset) = at-short n offset
+
+register-short : (a : Answer ℕ) (bytes : List ℕ) → length bytes ≡ 13 → Fits (registerLine a bytes)
+register-short (given n) bytes h = simp (length-append, hex-length, length-take) (omega arith)
+register-short (refused n offset) bytes h = refused-short n
+
+image-short : (a : Answer (Unit {0})) (image : List ℕ) (from : ℕ) → Fits (imagePart a image from)
+unfolding imagePart
+image-short (given u) image from =
+    if-cases (λ l. length (hexOf (take 100 (drop from image)) ++ l) ≤ 256) (leb (length image) (from + 100))
+    (λ e. simp (length-append, hex-length, length-take) (omega arith)) (λ e. simp (length-append, hex-length, length-take) (omega arith))
+image-short (refused n offset) image from = if-cases Fits (eqb from 0) (λ e. at-short n offset) (λ e. omega arith)
+
+date-short : (a : Answer Moment) → Fits (dateLine a)
+unfolding dateLine letters
+date-short (given m) = simp length-append (omega (arith, name (m .weekday)))
+date-short (refused n offset) = refused-short n
+
+fleet-short : (f : Fleet) → Fits (fleetLine f)
+unfolding fleetLine letters
+fleet-short f =
+    simp length-append (omega (arith, digits (f .fitted), digits (f .awake), digits (f .stale), digits (f .invalid), digits (f .never), sign (f .sum)))
+
+error-short : (n : ℕ) (m : Mistake) → Fits (errorLine n m)
+unfolding errorLine letters
+error-short n m = simp length-append (omega (arith, digits n, mistake-short m))
+
+pub none-cut : NoneCut
+none-cut =
+    record {
+      number = λ n. if-cases Fits (eqb n 0) (λ e. ok-short) (λ e. refused-short n);
+      samples = λ n k. if-cases Fits (eqb n 0) (λ e. ok-short) (λ e. after-short n k);
+      start = start-short;
+      register = register-short;
+      image = image-short;
+      date = date-short;
+      fleet = fleet-short;
+      error = error-short;
+    }
+
+-- bytes one after another in hexadecimal
+hex-append : (a b : List ℕ) → hexOf (a ++ b) ≡ hexOf a ++ hexOf b
+unfolding hexOf
+hex-append [] b = refl
+hex-append (x ∷ a) b = rw (hex-append a b)
+
+-- the last n parts
+parts : (image : List ℕ) (k n : ℕ) → length image ≡ 1126 → k + suc n ≡ 12 → partsFrom (given tt) image k (suc n) ≡ hexOf (drop (k * 100) image) ++ lineEnd
+unfolding imagePart
+parts image k zero h e =
+    let d : length (drop (k * 100) image) ≡ length image - k * 100 = length-drop (k * 100) image in
+    rw (le-leb (length image) (k * 100 + 100) (omega arith), take-all 100 (drop (k * 100) image) (omega arith), append-nil)
+parts image k (suc n) h e =
+    let m : suc k * 100 ≡ k * 100 + 100 = omega arith in
+    rw (
+      lt-leb (length image) (k * 100 + 100) (omega arith),
+      append-nil,
+      parts image (suc k) n h (omega arith),
+      ← append-assoc,
+      ← hex-append,
+      m,
+      ← drop-drop 100 (k * 100) image,
+      take-append-drop 100 (drop (k * 100) image),
+    )
+
+pub parts-join : PartsJoin
+unfolding imagePart
+parts-join (given u) image h = parts image 0 11 h refl
+parts-join (refused n offset) image h = rw append-nil

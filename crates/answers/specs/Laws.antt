@@ -1,0 +1,39 @@
+-- What is proved of the lines: none is too long for a text, so that each text is its letters; and the parts of an image's line make the line.
+use mathlib.Core.Path.{_≡_}
+use mathlib.Core.List.{List, [], _++_}
+use Prim.Native.Nat.{ℕ, zero, suc, _-_, _*_, _≤_}
+use lib.ListN.{length, replicate}
+use Rattle.laws.specs.Answers.{Answer}
+use Rattle.lines.specs.declared.Mistake.{Mistake}
+use Rattle.calendar.specs.declared.Moment.{Moment}
+use Rattle.registers.specs.declared.fleet.Fleet.{Fleet}
+use Rattle.answers.specs.Texts.{asText}
+use Rattle.answers.specs.Answers.{numberLine, samplesLine, startLine, registerLine, imageLine, imagePart, dateLine, fleetLine, errorLine}
+
+-- a text of at most 256 letters is the letters, with zeros behind them
+abbrev pub TextIs : Type 0
+TextIs = (l : List ℕ) → length l ≤ 256 → asText l ≡ record { bytes = l ++ replicate (256 - length l) 0; length = length l }
+
+-- letters that fit a text
+abbrev pub Fits : List ℕ → Type 0
+Fits l = length l ≤ 256
+
+-- no line is cut
+pub record NoneCut : Type 0 where
+  pub number : (n : ℕ) → Fits (numberLine n)
+  pub samples : (n k : ℕ) → Fits (samplesLine n k)
+  pub start : (a : Answer (Unit {0})) → Fits (startLine a)
+  pub register : (a : Answer ℕ) (bytes : List ℕ) → length bytes ≡ 13 → Fits (registerLine a bytes)
+  pub image : (a : Answer (Unit {0})) (image : List ℕ) (from : ℕ) → Fits (imagePart a image from)
+  pub date : (a : Answer Moment) → Fits (dateLine a)
+  pub fleet : (f : Fleet) → Fits (fleetLine f)
+  pub error : (n : ℕ) (m : Mistake) → Fits (errorLine n m)
+
+-- parts k, k + 1, .. of an image's line, n of them, one after another
+abbrev pub partsFrom : Answer (Unit {0}) → List ℕ → ℕ → ℕ → List ℕ
+partsFrom a image k zero = []
+partsFrom a image k (suc n) = imagePart a image (k * 100) ++ partsFrom a image (suc k) n
+
+-- the 12 parts of an image's line are the line
+abbrev pub PartsJoin : Type 0
+PartsJoin = (a : Answer (Unit {0})) (image : List ℕ) → length image ≡ 1126 → partsFrom a image 0 12 ≡ imageLine a image

@@ -23,7 +23,7 @@ ghost use mathlib.Core.List.{[], _++_};
 ghost use lib.ListN.{take};
 ghost use Rattle.laws.specs.Answers.{given, refused};
 ghost use Rattle.calendar.specs.Moments.{momentOf};
-ghost use Rattle.sampling.specs.Samples.{numberOf};
+ghost use Rattle.sampling.specs.Samples.{sampleNumber};
 ghost use Rattle.recorder.specs.Calls.{startNumber, setNumber, readingNumber};
 ghost use Rattle.image.specs.Answers.{writeSaid};
 ghost use Rattle.registers.specs.Registers.{registerSaid};
@@ -82,7 +82,7 @@ pub fn start_line(answer: StartAnswer) -> Text
 
 // Of samples `taken` were, before the one that was refused.
 pub fn samples_line(answer: SampleAnswer, taken: u32) -> Text
-    ensures { λ r. ⌜ r ≡ asText (samplesLine (numberOf answer) taken) ⌝ }
+    ensures { λ r. ⌜ r ≡ asText (samplesLine (sampleNumber answer) taken) ⌝ }
 {
     match answer {
         SampleAnswer::Taken => ok(),

@@ -1,7 +1,7 @@
 -- No second result fits the contract of a public function of the calendar.
 use mathlib.Core.Path.{_≡_, sym, _∙_}
 use Rattle.laws.specs.Unique.{OneResult}
-use Rattle.calendar.specs.Moments.{said}
+use Rattle.calendar.specs.Moments.{datedSaid}
 use Rattle.calendar.specs.declared.Dated.{Dated}
 use Rattle.calendar.specs.declared.Dated.the-variants.{On, NoDate}
 use Rattle.calendar.proofs.is_leap.Reads as is-leap-reads
@@ -11,7 +11,7 @@ use Rattle.calendar.proofs.exists_in_some_year.Reads as exists-in-some-
 use Rattle.calendar.proofs.moment_of.Reads as moment-of-reads
 
 -- document 01's number and values tell all answers apart
-pub said-apart : (x y : Dated) → said x ≡ said y → x ≡ y
+pub said-apart : (x y : Dated) → datedSaid x ≡ datedSaid y → x ≡ y
 said-apart (On m) (On n) e = cc
 said-apart (On m) NoDate e = cc
 said-apart NoDate (On n) e = cc

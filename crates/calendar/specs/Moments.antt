@@ -58,9 +58,9 @@ momentOf t =
     if ltb year 2107 then given (momentAt t year month (at .left - total month (monthLength year) + 1)) else refused 9 0
 
 -- what the code's answer says, with document 01's number
-abbrev pub said : Dated → Answer Moment
-said (On m) = given m
-said NoDate = refused 9 0
+abbrev pub datedSaid : Dated → Answer Moment
+datedSaid (On m) = given m
+datedSaid NoDate = refused 9 0
 
 -- another second of the same minute
 abbrev pub atSecond : Moment → ℕ → Moment

@@ -2,7 +2,7 @@
 ghost use mathlib.Core.Path.{_≡_};
 ghost use Prim.Native.Nat.{_<_};
 ghost use Rattle.calendar.specs.Dates.{leapYear, monthLength, dayExists, existsInSomeYear};
-ghost use Rattle.calendar.specs.Moments.{said, yearDay, momentAt, momentOf};
+ghost use Rattle.calendar.specs.Moments.{datedSaid, yearDay, momentAt, momentOf};
 
 // January to December; a leap year's February has a day more.
 const MONTH_LENGTHS: [u8; 12] = [31, 28, 31, 30, 31, 30, 31, 31, 30, 31, 30, 31];
@@ -93,7 +93,7 @@ fn moment_at(seconds: u32, year: u16, month: u8, day: u8) -> Moment
 
 // The moment of a second counted from 1.1.1970 00:00: the year by arithmetic, the month by a loop over the table.
 pub fn moment_of(seconds: u32) -> Dated
-    ensures { λ r. ⌜ said r ≡ momentOf seconds ⌝ }
+    ensures { λ r. ⌜ datedSaid r ≡ momentOf seconds ⌝ }
 {
     let at = year_day(seconds / 86400);
     let year = (1970 + at.years) as u16;

@@ -25,7 +25,7 @@ use Rattle.settings.specs.declared.Input.{Input}
 use Rattle.counting.specs.Filter.{inputAt, lineAt, nextRun, accepted, filtered, oneMore}
 use Rattle.counting.specs.Units.{unitsOf, remainderOf, credited, creditIf}
 use Rattle.counting.specs.Bills.{billAt, partOf, namedPart, sumOf, fills, fillsAt, bookedOf}
-use Rattle.sampling.specs.Periods.{multiple, cleared, tickOf}
+use Rattle.sampling.specs.Periods.{multiple, begunAnew, tickOf}
 use Rattle.sampling.specs.Samples.{activeAt, bookingOf, bookingOn, countedOf, clockEnd, sampleOf}
 use Rattle.recorder.specs.Clock.{setTo, setOf, closedBill, closedBillAt, resetOf}
 use Rattle.recorder.specs.Meters.{readingOf}
@@ -184,8 +184,8 @@ module _ (c : Config) (s : State) (a : Account) (bits : ℕ) (old : Agrees c s a
 -- Counting the sample
 
 -- a line at the start of a period has the same run, count and remainder
-cleared-agrees : (c : Config) (journal : List Entry) (state stamp i : ℕ) (line : Line) → LineAgrees c journal i line → LineAgrees c (ended state stamp ∷ journal) i (cleared line)
-unfolding cleared
+cleared-agrees : (c : Config) (journal : List Entry) (state stamp i : ℕ) (line : Line) → LineAgrees c journal i line → LineAgrees c (ended state stamp ∷ journal) i (begunAnew line)
+unfolding begunAnew
 cleared-agrees c journal state stamp i line old = record { run = old .run; rejected = old .rejected; remainder = old .remainder }
 
 -- the end of a period moves no bill

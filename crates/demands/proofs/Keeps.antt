@@ -19,7 +19,7 @@ use Rattle.counting.specs.Filter.{inputAt, lineAt, accepted, filtered, filtered
 use Rattle.counting.specs.Units.{unitsOf, unitsIf, creditIf, creditedAt, unitsAt, creditsOf}
 use Rattle.counting.specs.Bills.{feeds, registerAt, billAt, unitAt, partOf, namedPart, sumOf, sumAt, sumsOf, registerUnits, dueOf, billed, dueAt, fillsAt, billedAt, bookedOf}
 use Rattle.counting.specs.ByMask.{withAmount}
-use Rattle.sampling.specs.Periods.{cleared, clearedAt, clearedLines}
+use Rattle.sampling.specs.Periods.{begunAnew, clearedAt, clearedLines}
 use Rattle.sampling.specs.Samples.{bookingOf, activeAt, activeLines, bookingOn, putIn}
 use Rattle.counting.specs.declared.Line.{Line}
 use Rattle.sampling.specs.declared.State.{State}
@@ -108,6 +108,6 @@ module _ (c : Config) (s : State) (bits : ℕ) where
       rw (table-at 16 (billedAt (c .registers) (s .bills) map sums) j _ l, any-not 16 (fillsAt (c .registers) (s .bills) map sums) e j l)
 
 -- line i at the start of a period
-pub cleared-line : (lines : List Line) (i : ℕ) → i < 16 → lineAt (clearedLines lines) i ≡ cleared (lineAt lines i)
+pub cleared-line : (lines : List Line) (i : ℕ) → i < 16 → lineAt (clearedLines lines) i ≡ begunAnew (lineAt lines i)
 unfolding clearedLines clearedAt
 cleared-line lines i l = table-at 16 (clearedAt lines) i _ l

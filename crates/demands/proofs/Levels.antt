@@ -22,7 +22,7 @@ use Rattle.counting.specs.Filter.{inputAt, lineAt, filtered}
 use Rattle.counting.specs.Units.{unitsOf, heldSum, credited, creditIf}
 use Rattle.counting.specs.Bills.{sumAt}
 use Rattle.counting.specs.Levels.{level0At, level0, termAt, level2, inputValue, sumValue, functionValue, slotValue, slotValueAt, slotValues}
-use Rattle.sampling.specs.Periods.{multiple, cleared, clearedLines, closedAs, stateOf as stateAs, tickOf}
+use Rattle.sampling.specs.Periods.{multiple, begunAnew, clearedLines, closedAs, stateOf as stateAs, tickOf}
 use Rattle.sampling.specs.Samples.{activeAt, bookingOn, countedOf, sampleOf}
 use Rattle.recorder.specs.Clock.{setTo, setOf, resetOf}
 use Rattle.recorder.specs.Meters.{readingOf}
@@ -125,7 +125,7 @@ module _ (c : Config) (s : State) (a : Account) (bits : ℕ) (both : Agrees c s 
 
 -- the start of a period has no units
 cleared-units : (lines : List Line) (i : ℕ) → i < 16 → lineAt (clearedLines lines) i .units ≡ 0
-unfolding cleared
+unfolding begunAnew
 cleared-units lines i l = ap (λ (y : Line). y .units) (cleared-line lines i l)
 
 tick-closes : (c : Config) (s : State) (a : Account) → Good c → Agrees c s a → Closes c s a → Closes c (tickOf c s) (stepped c (a .time) (a .journal))

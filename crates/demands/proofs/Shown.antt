@@ -22,7 +22,7 @@ use Rattle.recorder.specs.Meters.{classOf}
 use Rattle.sampling.specs.declared.Meter.{Meter}
 use Rattle.recorder.specs.declared.Recorder.{Recorder}
 use Rattle.registers.specs.Fleet.{meterAt, meterClass, classAt, hasClass, hasAny, awakeValue, awakeSum, classesOf, fleetOf}
-use Rattle.registers.specs.Contents.{statusShown, serialBytes, meterBytes, mapBytes, resultBytes, dailyBytes, weeklyBytes, level9Bytes, slotBytes, billBytes, inputBytes, fleetBytes, clockBytes}
+use Rattle.registers.specs.Contents.{statusShown, serialBytes, meterBytes, mapBytes, resultBytes, dailyBytes, weeklyBytes, level9Bytes, levelBytes, billBytes, filterBytes, fleetBytes, clockBytes}
 use Rattle.registers.specs.Registers.{Group, groups, lookUp, groupOf, registersIn, registersOf, contentsOf, replyOf, registerReply}
 use Rattle.registers.proofs.Laws.{given-first, marked-by-class, unmarked-by-class}
 use Rattle.demands.specs.Account.{Entry, took, ended, cleared, heard, Account, Reading, lastReading, lastReset, inUse, accountOf}
@@ -155,7 +155,7 @@ module _ (c : Config) (a : Account) where
 
   -- each line of the table holds what the account shows, in as many registers as it has
   contents-are : (group i : ℕ) → i < registersOf group → contentsOf spelled group i ≡ shown c a group i
-  unfolding groups lookUp shown mapBytes dailyBytes weeklyBytes resultBytes slotBytes level9Bytes inputBytes fleetBytes clockBytes stateIn
+  unfolding groups lookUp shown mapBytes dailyBytes weeklyBytes resultBytes levelBytes level9Bytes filterBytes fleetBytes clockBytes stateIn
   contents-are group i l =
       by-test (eqb group 82) (λ t. rw t (serial-is i (rw t at l)))
       (λ a₁.
@@ -169,7 +169,7 @@ module _ (c : Config) (a : Account) where
       (λ a₅.
       by-test (eqb group 202) (λ t. rw (a₁, a₂, a₃, a₄, a₅, t) (ap billBytes (table-at 16 (billIn c (a .journal)) i _ (rw (a₁, a₂, a₃, a₄, a₅, t) at l)) ∙ bill-is i))
       (λ a₆.
-      by-test (eqb group 203) (λ t. rw (a₁, a₂, a₃, a₄, a₅, a₆, t) (ap inputBytes (table-at 16 (lineIn c (a .journal)) i _ (rw (a₁, a₂, a₃, a₄, a₅, a₆, t) at l))))
+      by-test (eqb group 203) (λ t. rw (a₁, a₂, a₃, a₄, a₅, a₆, t) (ap filterBytes (table-at 16 (lineIn c (a .journal)) i _ (rw (a₁, a₂, a₃, a₄, a₅, a₆, t) at l))))
       (λ a₇.
       by-test (eqb group 204) (λ t. rw (a₁, a₂, a₃, a₄, a₅, a₆, a₇, t) (ap fleetBytes fleet-is))
       (λ a₈.

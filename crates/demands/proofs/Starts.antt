@@ -7,7 +7,7 @@ use lib.ListN.{getD, drop}
 use Rattle.laws.specs.Answers.{Answer, given, refused}
 use Rattle.laws.specs.Bytes.{Bytes, le}
 use Rattle.laws.proofs.Bytes.{bytes-drop}
-use Rattle.laws.proofs.Runs.{entries}
+use Rattle.laws.specs.Runs.{entries}
 use Rattle.calendar.specs.Moments.{momentOf}
 use Rattle.calendar.specs.declared.Moment.{Moment}
 use Rattle.settings.specs.Rules.{noInput}

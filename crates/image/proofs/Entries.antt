@@ -11,7 +11,7 @@ use mir.Facts.{toZ-ofZ, ofZ-toZ}
 use Rattle.laws.specs.Bytes.{Bytes, bytesOf, le}
 use Rattle.laws.proofs.Bytes.{length-bytesOf, le-bytesOf, bytesOf-le, bytesOf-at, take-firsts}
 use Rattle.laws.proofs.Codec.{Codec, part-after}
-use Rattle.image.specs.Entries.{inputBytes, inputOf, coefficientBytes, coefficientOf, slotBytes, slotOf, windowBytes, windowOf, dateOf, seasonBytes, seasonOf, holidayBytes, holidayOf, ruleBytes, ruleOf, registerBytes, registerOf}
+use Rattle.image.specs.Entries.{inputBytes, inputOf, coefficientBytes, coefficientOf, slotBytes, slotOf, windowBytes, windowOf, dateIn, seasonBytes, seasonOf, holidayBytes, holidayOf, ruleBytes, ruleOf, registerBytes, registerIn}
 use Rattle.image.specs.Image.{TypedInput, TypedWindow, TypedHoliday}
 use Rattle.settings.specs.declared.Input.{Input}
 
@@ -89,7 +89,7 @@ window = record {
 }
 
 pub season : Codec seasonBytes seasonOf 4 (λ _. Unit {0})
-unfolding seasonBytes seasonOf dateOf
+unfolding seasonBytes seasonOf dateIn
 season = record { wide = λ x. refl; back = λ x t h. refl; forth = λ b byte h. rw (take-firsts 4 b h) (simp (getD-drop, drop-drop)) }
 
 pub holiday : Codec holidayBytes holidayOf 4 TypedHoliday
@@ -104,6 +104,6 @@ pub rule : Codec ruleBytes ruleOf 2 (λ _. Unit {0})
 unfolding ruleBytes ruleOf
 rule = record { wide = λ x. refl; back = λ x t h. refl; forth = λ b byte h. rw (take-firsts 2 b h) (simp getD-drop) }
 
-pub register : Codec registerBytes registerOf 2 (λ _. Unit {0})
-unfolding registerBytes registerOf
+pub register : Codec registerBytes registerIn 2 (λ _. Unit {0})
+unfolding registerBytes registerIn
 register = record { wide = λ x. refl; back = λ x t h. refl; forth = λ b byte h. rw (take-firsts 2 b h) (simp getD-drop) }

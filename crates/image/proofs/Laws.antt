@@ -12,7 +12,7 @@ use Rattle.laws.proofs.Tests.{by-test, and-left, and-right}
 use Rattle.laws.specs.Answers.{Answer, given, refused}
 use Rattle.laws.specs.Bytes.{Bytes, bytesOf, le}
 use Rattle.laws.proofs.Bytes.{le-2, bytes-drop, take-firsts}
-use Rattle.laws.proofs.Runs.{joined, entries}
+use Rattle.laws.specs.Runs.{joined, entries}
 use Rattle.laws.proofs.Codec.{part-join, part-after, each-any, section-wide, section-back, forth-at, number}
 use Rattle.tariff.specs.declared.Program.{Program}
 use Rattle.image.specs.Entries.{inputBytes, coefficientBytes, slotBytes, windowBytes, seasonBytes, holidayBytes, ruleBytes, registerBytes}

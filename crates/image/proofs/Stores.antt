@@ -6,7 +6,8 @@ use lib.ListN.{length, set, length-append}
 use lib.Seq.{sets}
 use Rattle.laws.specs.Bytes.{bytesOf}
 use Rattle.laws.proofs.Bytes.{length-bytesOf}
-use Rattle.laws.proofs.Runs.{joined, sets-then}
+use Rattle.laws.specs.Runs.{joined}
+use Rattle.laws.proofs.Runs.{sets-then}
 use Rattle.laws.proofs.Codec.{section-wide, number}
 use Rattle.tariff.specs.declared.Window.{Window}
 use Rattle.tariff.specs.declared.Program.{Program}

@@ -60,8 +60,8 @@ unfoldable pub windowOf : List ℕ → Window
 windowOf b = record { first = le 2 b; end = le 2 (drop 2 b) }
 
 -- the date that bytes start with: day and month
-unfoldable pub dateOf : List ℕ → Date
-dateOf b = record { day = getD b 0 0; month = getD b 1 0 }
+unfoldable pub dateIn : List ℕ → Date
+dateIn b = record { day = getD b 0 0; month = getD b 1 0 }
 
 -- "season: day, month, day, month"
 unfoldable pub seasonBytes : Season → List ℕ
@@ -69,7 +69,7 @@ seasonBytes x = x .first .day ∷ x .first .month ∷ x .second .day ∷ x .seco
 
 -- the season that bytes start with
 unfoldable pub seasonOf : List ℕ → Season
-seasonOf b = record { first = dateOf b; second = dateOf (drop 2 b) }
+seasonOf b = record { first = dateIn b; second = dateIn (drop 2 b) }
 
 -- "holiday: day, month, two-byte year"
 unfoldable pub holidayBytes : Holiday → List ℕ
@@ -92,5 +92,5 @@ unfoldable pub registerBytes : Register → List ℕ
 registerBytes x = x .sum ∷ x .rule ∷ []
 
 -- the bill register that bytes start with
-unfoldable pub registerOf : List ℕ → Register
-registerOf b = record { sum = getD b 0 0; rule = getD b 1 0 }
+unfoldable pub registerIn : List ℕ → Register
+registerIn b = record { sum = getD b 0 0; rule = getD b 1 0 }

@@ -8,11 +8,11 @@ use mir.Syntax.{w8}
 use mir.Val.{SFits}
 use Rattle.laws.specs.Each.{Each}
 use Rattle.laws.specs.Bytes.{bytesOf, le}
-use Rattle.laws.proofs.Runs.{joined, entries}
+use Rattle.laws.specs.Runs.{joined, entries}
 use Rattle.tariff.specs.declared.Window.{Window}
 use Rattle.tariff.specs.declared.Holiday.{Holiday}
 use Rattle.tariff.specs.declared.Program.{Program}
-use Rattle.image.specs.Entries.{inputBytes, inputOf, coefficientBytes, coefficientOf, slotBytes, slotOf, windowBytes, windowOf, seasonBytes, seasonOf, holidayBytes, holidayOf, ruleBytes, ruleOf, registerBytes, registerOf}
+use Rattle.image.specs.Entries.{inputBytes, inputOf, coefficientBytes, coefficientOf, slotBytes, slotOf, windowBytes, windowOf, seasonBytes, seasonOf, holidayBytes, holidayOf, ruleBytes, ruleOf, registerBytes, registerIn}
 use Rattle.settings.specs.Rules.{noInput, noSlot, noWindow, noSeason, noHoliday, noRule, noRegister}
 use Rattle.settings.specs.declared.Input.{Input}
 use Rattle.settings.specs.declared.Config.{Config}
@@ -64,7 +64,7 @@ decode b =
       slots = entries slotOf 2 16 (drop 166 b);
       limits = entries (le 2) 2 32 (drop 198 b);
       program = programIn b;
-      registers = entries registerOf 2 16 (drop 1094 b);
+      registers = entries registerIn 2 16 (drop 1094 b);
     }
 
 -- a tariff program of zeros

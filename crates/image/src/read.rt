@@ -14,8 +14,8 @@ ghost use mathlib.Core.Path.{_≡_};
 ghost use Prim.Native.Nat.{_+_, _≤_};
 ghost use lib.ListN.{length, drop};
 ghost use Rattle.laws.specs.Bytes.{le};
-ghost use Rattle.laws.proofs.Runs.{entries};
-ghost use Rattle.image.specs.Entries.{inputOf, coefficientOf, slotOf, windowOf, dateOf, seasonOf, holidayOf, ruleOf, registerOf};
+ghost use Rattle.laws.specs.Runs.{entries};
+ghost use Rattle.image.specs.Entries.{inputOf, coefficientOf, slotOf, windowOf, dateIn, seasonOf, holidayOf, ruleOf, registerIn};
 ghost use Rattle.image.specs.Image.{programIn, decode};
 
 fn input(s: &[u8], at: usize) -> Input
@@ -60,7 +60,7 @@ fn window(s: &[u8], at: usize) -> Window
 
 fn date(s: &[u8], at: usize) -> Date
     requires { ⌜ at + 2 ≤ length (now s) ⌝ }
-    ensures { λ r. ⌜ r ≡ dateOf (drop at (now (s .entry))) ⌝ }
+    ensures { λ r. ⌜ r ≡ dateIn (drop at (now (s .entry))) ⌝ }
 {
     Date {
         day: s[at],
@@ -100,7 +100,7 @@ fn rule(s: &[u8], at: usize) -> Rule
 
 fn register(s: &[u8], at: usize) -> Register
     requires { ⌜ at + 2 ≤ length (now s) ⌝ }
-    ensures { λ r. ⌜ r ≡ registerOf (drop at (now (s .entry))) ⌝ }
+    ensures { λ r. ⌜ r ≡ registerIn (drop at (now (s .entry))) ⌝ }
 {
     Register {
         sum: s[at],
@@ -253,7 +253,7 @@ fn rules(s: &[u8], base: usize) -> [Rule; 16]
 
 fn registers(s: &[u8], base: usize) -> [Register; 16]
     requires { ⌜ base + 32 ≤ length (now s) ⌝ }
-    ensures { λ r. ⌜ r ≡ entries registerOf 2 16 (drop base (now (s .entry))) ⌝ }
+    ensures { λ r. ⌜ r ≡ entries registerIn 2 16 (drop base (now (s .entry))) ⌝ }
 {
     let mut r = [Register { sum: 0, rule: 0 }; 16];
     let mut i = 0;
@@ -270,11 +270,11 @@ fn program(s: &[u8]) -> Program
     ensures { λ r. ⌜ r ≡ programIn (now (s .entry)) ⌝ }
 {
     Program {
-        windows: windows(s, 262),
-        weeks: weeks(s, 774),
-        seasons: seasons(s, 902),
-        holidays: holidays(s, 934),
-        rules: rules(s, 1062),
+        windows: windows(s, settings::WINDOWS_AT),
+        weeks: weeks(s, settings::WEEKS_AT),
+        seasons: seasons(s, settings::SEASONS_AT),
+        holidays: holidays(s, settings::HOLIDAYS_AT),
+        rules: rules(s, settings::RULES_AT),
     }
 }
 
@@ -284,13 +284,13 @@ pub(crate) fn config(s: &[u8]) -> Config
     ensures { λ r. ⌜ r ≡ decode (now (s .entry)) ⌝ }
 {
     Config {
-        period: s[5],
-        inputs: inputs(s, 6),
-        sums: sums(s, 118),
-        coefficients: coefficients(s, 134),
-        slots: slots(s, 166),
-        limits: limits(s, 198),
+        period: s[settings::PERIOD_AT],
+        inputs: inputs(s, settings::INPUTS_AT),
+        sums: sums(s, settings::SUMS_AT),
+        coefficients: coefficients(s, settings::COEFFICIENTS_AT),
+        slots: slots(s, settings::SLOTS_AT),
+        limits: limits(s, settings::LIMITS_AT),
         program: program(s),
-        registers: registers(s, 1094),
+        registers: registers(s, settings::REGISTERS_AT),
     }
 }

@@ -14,7 +14,7 @@ ghost use Prim.Native.Nat.{_+_, _≤_};
 ghost use lib.ListN.{length};
 ghost use lib.Seq.{sets};
 ghost use Rattle.laws.specs.Bytes.{bytesOf};
-ghost use Rattle.laws.proofs.Runs.{joined};
+ghost use Rattle.laws.specs.Runs.{joined};
 ghost use Rattle.image.specs.Entries.{inputBytes, coefficientBytes, slotBytes, windowBytes, seasonBytes, holidayBytes, ruleBytes, registerBytes};
 ghost use Rattle.image.specs.Image.{headBytes, programBytes, encode};
 
@@ -228,15 +228,15 @@ fn program(buf: &mut [u8], p: Program)
     ensures { λ _. ⌜ now (buf .exit) ≡ sets (now (buf .entry)) 262 (programBytes p) ⌝ }
 {
     let xs = p.windows;
-    windows(buf, 262, xs);
+    windows(buf, settings::WINDOWS_AT, xs);
     let xs = p.weeks;
-    weeks(buf, 774, xs);
+    weeks(buf, settings::WEEKS_AT, xs);
     let xs = p.seasons;
-    seasons(buf, 902, xs);
+    seasons(buf, settings::SEASONS_AT, xs);
     let xs = p.holidays;
-    holidays(buf, 934, xs);
+    holidays(buf, settings::HOLIDAYS_AT, xs);
     let xs = p.rules;
-    rules(buf, 1062, xs);
+    rules(buf, settings::RULES_AT, xs);
 }
 
 // The image of a configuration, in the first 1,126 bytes.
@@ -246,17 +246,17 @@ pub(crate) fn config(buf: &mut [u8], c: Config)
 {
     head(buf, c.period);
     let xs = c.inputs;
-    inputs(buf, 6, xs);
+    inputs(buf, settings::INPUTS_AT, xs);
     let xs = c.sums;
-    sums(buf, 118, xs);
+    sums(buf, settings::SUMS_AT, xs);
     let xs = c.coefficients;
-    coefficients(buf, 134, xs);
+    coefficients(buf, settings::COEFFICIENTS_AT, xs);
     let xs = c.slots;
-    slots(buf, 166, xs);
+    slots(buf, settings::SLOTS_AT, xs);
     let xs = c.limits;
-    limits(buf, 198, xs);
+    limits(buf, settings::LIMITS_AT, xs);
     let p = c.program;
     program(buf, p);
     let xs = c.registers;
-    registers(buf, 1094, xs);
+    registers(buf, settings::REGISTERS_AT, xs);
 }

@@ -9,7 +9,8 @@ use lib.Seq.{drop-drop, drop-at, take-add, take-suc, take-all, drop-cons}
 use Rattle.laws.specs.Each.{Each}
 use Rattle.laws.specs.Bytes.{Bytes, bytesOf, le}
 use Rattle.laws.proofs.Bytes.{length-bytesOf, le-bytesOf, bytesOf-le, bytes-drop}
-use Rattle.laws.proofs.Runs.{joined, entries, joined-append, length-joined}
+use Rattle.laws.specs.Runs.{joined, entries}
+use Rattle.laws.proofs.Runs.{joined-append, length-joined}
 
 -- two parts that follow one another are the part that both make
 pub part-join : (b : List ℕ) (at n : ℕ) {t : List ℕ} → t ≡ drop (at + n) b → take n (drop at b) ++ t ≡ drop at b

@@ -1,5 +1,4 @@
--- Entries one after another in bytes: the loops that write and that read such a run. A record says how far a loop has come; three laws say that it starts, goes on
--- and is done.
+-- The loops that write and that read entries one after another. A record says how far a loop has come; three laws say that it starts, goes on and is done.
 use mathlib.Core.Path.{_≡_, refl, sym, ap, _∙_}
 use mathlib.Core.List.{List, [], _∷_, _++_, append-assoc, append-nil}
 use Prim.Native.Nat.{ℕ, zero, suc, _+_, _*_, _≤_, _<_, zero-le}
@@ -8,6 +7,7 @@ use native.Mathlib.Numerals.{add-one}
 use native.Mathlib.Omega.{arith}
 use lib.ListN.{length, take, drop, getD, set, length-append, length-set}
 use lib.Seq.{sets, drop-drop, take-suc, take-suc-set, take-all, length-sets, length-take-le}
+use Rattle.laws.specs.Runs.{joined, entries}
 
 -- places as the code has them and as `sets` counts them
 pub next : (i : ℕ) → (i + 1 ≡ suc i) × (i + 2 ≡ suc (suc i)) × (i + 3 ≡ suc (suc (suc i)))
@@ -24,16 +24,6 @@ module _ {A : Type 0} where
   sets-then l at n xs ys h = rw (← h, sets-append)
 
 module _ {A : Type 0} where
-  -- the bytes of the entries xs, one after another
-  unfoldable pub joined : (A → List ℕ) → List A → List ℕ
-  joined enc [] = []
-  joined enc (x ∷ xs) = enc x ++ joined enc xs
-
-  -- the first n entries of b, each of `size` bytes
-  unfoldable pub entries : (List ℕ → A) → ℕ → ℕ → List ℕ → List A
-  entries dec size zero b = []
-  entries dec size (suc n) b = entries dec size n b ++ (dec (drop (size * n) b) ∷ [])
-
   -- two runs of entries
   pub joined-append : (enc : A → List ℕ) (xs ys : List A) → joined enc (xs ++ ys) ≡ joined enc xs ++ joined enc ys
   unfolding joined

@@ -13,3 +13,4 @@ pub mod Each
 pub mod Bytes
 pub mod Answers
 pub mod Unique
+pub mod Runs

@@ -11,7 +11,7 @@ use lib.Dec.{leb, eqb}
 use lib.ListN.{length, getD, drop, drop-of-length-le}
 use lib.Seq.{drop-cons}
 use Rattle.laws.proofs.Tests.{by-test}
-use Rattle.lines.specs.Numbers.{isDigit, digits, valueFrom, isNumber, numberOf, noNumber}
+use Rattle.lines.specs.Numbers.{isDigit, digits, valueFrom, isNumber, wholeOf, noNumber}
 
 -- digits after n, and the number that they make with it is at most `most`
 unfoldable pub goesOn : ℕ → ℕ → List ℕ → Bool

@@ -6,7 +6,7 @@ use lib.Dec.{ltb, eqb}
 use lib.ListN.{length, getD}
 use Rattle.laws.specs.If.{if_then_else_}
 use Rattle.lines.specs.Words.{letters, withoutReturn, words, word, same}
-use Rattle.lines.specs.Numbers.{numberOf, signedOf}
+use Rattle.lines.specs.Numbers.{wholeOf, signedOf}
 use Rattle.lines.specs.declared.numbers.Number.{Number}
 use Rattle.lines.specs.declared.numbers.Signed.{Signed}
 use Rattle.lines.specs.declared.Line.{Line}
@@ -24,15 +24,15 @@ use Rattle.lines.specs.declared.Timed.the-variants as timed
 
 -- word k as a number of 32 bits
 abbrev pub number32 : ℕ → List ℕ → Number
-number32 k text = numberOf 4294967295 (word k text)
+number32 k text = wholeOf 4294967295 (word k text)
 
 -- word k as a number of 16 bits
 abbrev pub number16 : ℕ → List ℕ → Number
-number16 k text = numberOf 65535 (word k text)
+number16 k text = wholeOf 65535 (word k text)
 
 -- word k as a number of 8 bits
 abbrev pub number8 : ℕ → List ℕ → Number
-number8 k text = numberOf 255 (word k text)
+number8 k text = wholeOf 255 (word k text)
 
 -- how many words a line has
 abbrev pub count : List ℕ → ℕ
@@ -57,12 +57,12 @@ abbrev pub timeOf : (ℕ → Line) → Number → Line
 timeOf ask n = if not (n .ok) then bad parameter.Seconds else ask (n .value)
 
 -- samples: bits and how many; the first number that is wrong is told
-abbrev pub sampleOf : Number → Number → Line
-sampleOf bits n = if not (bits .ok) then bad parameter.Bits else if not (n .ok) then bad parameter.Count else Sample (bits .value) (n .value)
+abbrev pub sampleAsked : Number → Number → Line
+sampleAsked bits n = if not (bits .ok) then bad parameter.Bits else if not (n .ok) then bad parameter.Count else Sample (bits .value) (n .value)
 
 -- a reading: meter, value, STATUS and SEQ
-abbrev pub readingOf : Number → Signed → Number → Number → Line
-readingOf m v s q =
+abbrev pub readingAsked : Number → Signed → Number → Number → Line
+readingAsked m v s q =
     if not (m .ok) then bad parameter.Meter
     else if not (v .ok) then bad parameter.Value
     else if not (s .ok) then bad parameter.Status
@@ -70,8 +70,8 @@ readingOf m v s q =
     else Reading (m .value) (v .value) (s .value) (q .value)
 
 -- a register request: group, register and room
-abbrev pub registerOf : Number → Number → Number → Line
-registerOf g r room =
+abbrev pub registerAsked : Number → Number → Number → Line
+registerAsked g r room =
     if not (g .ok) then bad parameter.Group
     else if not (r .ok) then bad parameter.Number
     else if not (room .ok) then bad parameter.Room
@@ -92,11 +92,11 @@ hasWords command.Fleet n = eqb n 1
 -- what a line of a command asks; COUNT is 1 where it is not written, and ROOM 13, the longest register
 unfoldable pub askedOf : Command → List ℕ → Line
 askedOf command.Start text = timeOf Start (number32 1 text)
-askedOf command.Sample text = sampleOf (number16 1 text) (numberOr 1 2 text)
+askedOf command.Sample text = sampleAsked (number16 1 text) (numberOr 1 2 text)
 askedOf command.Set text = timeOf Set (number32 1 text)
-askedOf command.Reading text = readingOf (number8 1 text) (signedOf (word 2 text)) (number8 3 text) (number8 4 text)
+askedOf command.Reading text = readingAsked (number8 1 text) (signedOf (word 2 text)) (number8 3 text) (number8 4 text)
 askedOf command.Reset text = Reset
-askedOf command.Register text = registerOf (number32 1 text) (number32 2 text) (numberOr 13 3 text)
+askedOf command.Register text = registerAsked (number32 1 text) (number32 2 text) (numberOr 13 3 text)
 askedOf command.Image text = Image
 askedOf command.Date text = timeOf Date (number32 1 text)
 askedOf command.Fleet text = Fleet

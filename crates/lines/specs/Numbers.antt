@@ -32,8 +32,8 @@ abbrev pub noNumber : Number
 noNumber = record { ok = false; value = 0 }
 
 -- the number of a word, if it is one of at most `most`
-unfoldable pub numberOf : ℕ → List ℕ → Number
-numberOf most w = if isNumber most w then record { ok = true; value = valueFrom 0 w } else noNumber
+unfoldable pub wholeOf : ℕ → List ℕ → Number
+wholeOf most w = if isNumber most w then record { ok = true; value = valueFrom 0 w } else noNumber
 
 -- a number that is not negative
 abbrev pub plain : Number → Signed
@@ -45,4 +45,4 @@ opposite n = record { ok = n .ok; value = negℤ (pos (n .value)) }
 
 -- a number that may have a minus sign (45) in front, -2,147,483,648 to 2,147,483,647
 unfoldable pub signedOf : List ℕ → Signed
-signedOf w = if eqb (getD w 0 0) 45 then opposite (numberOf 2147483648 (drop 1 w)) else plain (numberOf 2147483647 w)
+signedOf w = if eqb (getD w 0 0) 45 then opposite (wholeOf 2147483648 (drop 1 w)) else plain (wholeOf 2147483647 w)

@@ -7,8 +7,8 @@ use numbers::Signed;
 ghost use mathlib.Core.Path.{_≡_};
 ghost use Prim.Native.Nat.{_≤_};
 ghost use Rattle.lines.specs.Words.{word};
-ghost use Rattle.lines.specs.Numbers.{numberOf, signedOf};
-ghost use Rattle.lines.specs.Lines.{number32, numberOr, sampleOf, readingOf, registerOf, withTime, timeOf, hasWords, askedOf, commandOf, asked, textMeans, lineMeans};
+ghost use Rattle.lines.specs.Numbers.{wholeOf, signedOf};
+ghost use Rattle.lines.specs.Lines.{number32, numberOr, sampleAsked, readingAsked, registerAsked, withTime, timeOf, hasWords, askedOf, commandOf, asked, textMeans, lineMeans};
 ghost use Rattle.lines.specs.Lines.{bad as Lines·bad};
 
 // What a line asks, or what is wrong with it.
@@ -116,7 +116,7 @@ fn command_of(first: &[u8]) -> First
 
 // Word k as a number of at most `most`.
 fn number_at(text: &[u8], k: usize, most: u32) -> Number
-    ensures { λ r. ⌜ (r ≡ numberOf most (word k (now (text .entry)))) × (r .value ≤ most) ⌝ }
+    ensures { λ r. ⌜ (r ≡ wholeOf most (word k (now (text .entry)))) × (r .value ≤ most) ⌝ }
 {
     let w = words::word(text, k);
     numbers::read_number(w, most)
@@ -172,7 +172,7 @@ fn time_of(what: Timed, time: Number) -> Line
 // Samples of which the bits and the count are read.
 fn sample_of(bits: Number, n: Number) -> Line
     requires { ⌜ bits .value ≤ 65535 ⌝ }
-    ensures { λ r. ⌜ r ≡ sampleOf bits n ⌝ }
+    ensures { λ r. ⌜ r ≡ sampleAsked bits n ⌝ }
 {
     if !bits.ok {
         return bad(Parameter::Bits);
@@ -184,7 +184,7 @@ fn sample_of(bits: Number, n: Number) -> Line
 }
 
 fn register_of(group: Number, number: Number, room: Number) -> Line
-    ensures { λ r. ⌜ r ≡ registerOf group number room ⌝ }
+    ensures { λ r. ⌜ r ≡ registerAsked group number room ⌝ }
 {
     if !group.ok {
         return bad(Parameter::Group);
@@ -200,7 +200,7 @@ fn register_of(group: Number, number: Number, room: Number) -> Line
 
 fn reading_of(m: Number, v: Signed, s: Number, q: Number) -> Line
     requires { ⌜ (m .value ≤ 255) × (s .value ≤ 255) × (q .value ≤ 255) ⌝ }
-    ensures { λ r. ⌜ r ≡ readingOf m v s q ⌝ }
+    ensures { λ r. ⌜ r ≡ readingAsked m v s q ⌝ }
 {
     if !m.ok {
         return bad(Parameter::Meter);

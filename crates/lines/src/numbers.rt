@@ -2,7 +2,7 @@
 ghost use mathlib.Core.Path.{_≡_};
 ghost use Prim.Native.Nat.{_≤_};
 ghost use lib.IntN.{pos, negℤ};
-ghost use Rattle.lines.specs.Numbers.{noNumber, numberOf, signedOf};
+ghost use Rattle.lines.specs.Numbers.{noNumber, wholeOf, signedOf};
 ghost use Rattle.lines.specs.Numbers.{isDigit as Numbers·isDigit};
 
 // What a word is as a number; 0 stands beside a word that is none.
@@ -34,7 +34,7 @@ fn none() -> Number
 
 // A number of at most `most`. It is refused as soon as it is larger.
 pub(crate) fn read_number(w: &[u8], most: u32) -> Number
-    ensures { λ r. ⌜ (r ≡ numberOf most (now (w .entry))) × (r .value ≤ most) ⌝ }
+    ensures { λ r. ⌜ (r ≡ wholeOf most (now (w .entry))) × (r .value ≤ most) ⌝ }
 {
     if w.len() == 0 {
         return none();

@@ -26,7 +26,7 @@ use Rattle.settings.specs.declared.Config.{Config}
 use Rattle.settings.specs.declared.Input.{Input}
 use Rattle.counting.specs.Filter.{inputAt, lineAt, filtered, filteredAt, steppedOf}
 use Rattle.counting.specs.Units.{unitsOf, heldSum, credited, creditIf, creditedAt, creditsOf}
-use Rattle.sampling.specs.Periods.{multiple, cleared, clearedAt, clearedLines, tickOf}
+use Rattle.sampling.specs.Periods.{multiple, begunAnew, clearedAt, clearedLines, tickOf}
 use Rattle.sampling.specs.Samples.{bookingOf, activeLines, bookingOn, putIn, countedOf, clockEnd, sampleOf}
 use Rattle.recorder.specs.Clock.{setTo, setDated, setOf, resetOf}
 use Rattle.recorder.specs.Meters.{readingOf}
@@ -110,7 +110,7 @@ begun c s w e none =
 
 -- lines at the start of a period have no units
 cleared-none : (lines : List Line) (i : ℕ) → i < 16 → lineAt (clearedLines lines) i .units ≡ 0
-unfolding clearedLines clearedAt cleared
+unfolding clearedLines clearedAt begunAnew
 cleared-none lines i l = rw (table-at 16 (clearedAt lines) i _ l) refl
 
 -- a time that is no multiple of the period's seconds

@@ -17,12 +17,12 @@ use Rattle.counting.specs.Filter.{accepted, filtered, filteredAt, acceptedAt, s
 use Rattle.counting.specs.Units.{unitsOf, remainderOf, credited, creditIf, unitsIf, creditedAt, unitsAt, creditsOf}
 use Rattle.counting.specs.Bills.{namedPart, sumOf, sumAt, sumsOf, registerUnits, dueOf, fills, billed, dueAt, fillsAt, billedAt, bookedOf}
 use Rattle.counting.specs.Levels.{level0At, level0, termAt, level2, inputValue, sumValue, functionValue, slotValue, slotValueAt, slotValues}
-use Rattle.sampling.specs.Periods.{multiple, cleared, clearedAt, clearedLines, closedAs, tickOf}
+use Rattle.sampling.specs.Periods.{multiple, begunAnew, clearedAt, clearedLines, closedAs, tickOf}
 use Rattle.sampling.specs.Samples.{bookingOf, activeAt, activeLines, countedOf, sampleOf, samplesOf}
 use Rattle.recorder.specs.Calls.{freshState}
 use Rattle.recorder.specs.Cases.{Claim, cases}
 
 -- all of them hold: antt computes both sides of each
 pub cases-hold : Each Claim cases
-unfolding first any total span maskOf bitAt table monthLength yearLength yearDay momentOf windowActive dailyActive fitsAt firstHoliday columnOn referenceAt weeklyActive inSeason seasonActive applies inForce forceMap forceOf accepted filtered filteredAt acceptedAt steppedOf unitsOf remainderOf credited creditIf unitsIf creditedAt unitsAt creditsOf namedPart sumOf sumAt sumsOf registerUnits dueOf fills billed dueAt fillsAt billedAt bookedOf level0At level0 termAt level2 inputValue sumValue functionValue slotValue slotValueAt slotValues multiple cleared clearedAt clearedLines closedAs tickOf bookingOf activeAt activeLines countedOf sampleOf samplesOf freshState
+unfolding first any total span maskOf bitAt table monthLength yearLength yearDay momentOf windowActive dailyActive fitsAt firstHoliday columnOn referenceAt weeklyActive inSeason seasonActive applies inForce forceMap forceOf accepted filtered filteredAt acceptedAt steppedOf unitsOf remainderOf credited creditIf unitsIf creditedAt unitsAt creditsOf namedPart sumOf sumAt sumsOf registerUnits dueOf fills billed dueAt fillsAt billedAt bookedOf level0At level0 termAt level2 inputValue sumValue functionValue slotValue slotValueAt slotValues multiple begunAnew clearedAt clearedLines closedAs tickOf bookingOf activeAt activeLines countedOf sampleOf samplesOf freshState
 cases-hold = ((refl, refl), ((refl, refl), ((refl, refl), ((refl, refl), ((refl, refl), ((refl, refl), ((refl, refl), ((refl, refl), ((refl, refl, refl), tt)))))))))

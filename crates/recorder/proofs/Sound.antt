@@ -26,7 +26,7 @@ use Rattle.settings.specs.declared.Register.{Register}
 use Rattle.counting.specs.Filter.{inputAt, lineAt, nextRun, filtered, filteredAt, steppedOf}
 use Rattle.counting.specs.Units.{remainderOf, credited, creditIf, creditedAt, creditsOf}
 use Rattle.counting.specs.Bills.{registerAt, billAt, fills, billed, dueAt, fillsAt, billedAt, bookedOf}
-use Rattle.sampling.specs.Periods.{multiple, cleared, clearedAt, clearedLines, tickOf}
+use Rattle.sampling.specs.Periods.{multiple, begunAnew, clearedAt, clearedLines, tickOf}
 use Rattle.sampling.specs.Samples.{bookingOf, activeLines, bookingOn, putIn, countedOf, clockEnd, sampleOf}
 use Rattle.recorder.specs.Clock.{setTo, setDated, setOf, closedBill, closedBillAt, resetOf}
 use Rattle.recorder.specs.Meters.{readingOf}
@@ -84,7 +84,7 @@ booked-lines c clock lines bills mask h =
 
 -- lines at the start of a period
 cleared-lines : (inputs : List Input) (lines : List Line) → SoundLines inputs lines → SoundLines inputs (clearedLines lines)
-unfolding clearedLines clearedAt cleared
+unfolding clearedLines clearedAt begunAnew
 cleared-lines inputs lines h =
     record {
       sixteen = length-table 16 (clearedAt lines);

@@ -11,7 +11,7 @@ use Rattle.calendar.specs.declared.Moment.{Moment}
 use Rattle.image.specs.Image.{blankConfig}
 use Rattle.image.specs.Answers.{imageAnswer, imageConfig}
 use Rattle.settings.specs.declared.Config.{Config}
-use Rattle.sampling.specs.Samples.{numberOf, sampleOf, Run, samplesOf}
+use Rattle.sampling.specs.Samples.{sampleNumber, sampleOf, Run, samplesOf}
 use Rattle.recorder.specs.Meters.{readingOf}
 use Rattle.recorder.specs.Clock.{setOf, resetOf}
 use Rattle.sampling.specs.declared.State.{State}
@@ -97,21 +97,21 @@ readingNumber NotFitted = 8
 readingNumber BadReading = 10
 
 -- a reply: document 01's number, 0 where the call was taken, and the state after it
-pub record Reply : Type 0 where
+pub record StateReply : Type 0 where
   pub number : ℕ
   pub state : State
 
 -- a refused call leaves the state as it was
-abbrev pub replyTo : State → Answer State → Reply
+abbrev pub replyTo : State → Answer State → StateReply
 replyTo s (given next) = record { number = 0; state = next }
 replyTo s (refused n offset) = record { number = n; state = s }
 
 -- what the code's answer to a clock set says of the state
-abbrev pub setSaid : Setting → Reply
+abbrev pub setSaid : Setting → StateReply
 setSaid r = record { number = setNumber (r .answer); state = r .state }
 
 -- what the code's answer to a reading says of the state
-abbrev pub readingSaid : Reading → Reply
+abbrev pub readingSaid : Reading → StateReply
 readingSaid r = record { number = readingNumber (r .answer); state = r .state }
 
 -- the same of the whole recorder: a call leaves the configuration
@@ -120,7 +120,7 @@ pub record Answered : Type 0 where
   pub recorder : Recorder
 
 -- a reply with the configuration beside it
-abbrev pub beside : Config → Reply → Answered
+abbrev pub beside : Config → StateReply → Answered
 beside c reply = record { number = reply .number; recorder = record { config = c; state = reply .state } }
 
 -- the reply to a sample
@@ -129,7 +129,7 @@ sampleReply r bits = beside (r .config) (replyTo (r .state) (sampleOf (r .config
 
 -- what the code's answer to a sample says
 abbrev pub sampledSaid : Sampled → Answered
-sampledSaid r = record { number = numberOf (r .answer); recorder = r .recorder }
+sampledSaid r = record { number = sampleNumber (r .answer); recorder = r .recorder }
 
 -- the reply to a run of samples: how many were taken, too
 pub record RunAnswered : Type 0 where
@@ -147,7 +147,7 @@ samplesReply r bits = runBeside (r .config) (samplesOf (r .config) (r .state) bi
 
 -- what the code's answer to a run says
 abbrev pub runSaid : SampleRun → RunAnswered
-runSaid r = record { taken = r .taken; number = numberOf (r .answer); recorder = r .recorder }
+runSaid r = record { taken = r .taken; number = sampleNumber (r .answer); recorder = r .recorder }
 
 -- the reply to a clock set
 abbrev pub setReply : Recorder → ℕ → Answered

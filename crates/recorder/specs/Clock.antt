@@ -12,22 +12,14 @@ use Rattle.calendar.specs.declared.Moment.{Moment}
 use Rattle.settings.specs.declared.Config.{Config}
 use Rattle.settings.specs.declared.Register.{Register}
 use Rattle.counting.specs.Bills.{registerAt, billAt}
-use Rattle.sampling.specs.Periods.{clearedLines, closedAs}
+use Rattle.sampling.specs.Periods.{closedAs, atClock, closedWith}
+use Rattle.sampling.specs.Samples.{putIn}
 use Rattle.counting.specs.declared.Bill.{Bill}
 use Rattle.sampling.specs.declared.State.{State}
 
 -- the state set to a time: the period closes at the old time as short, 1; second and period start anew
 unfoldable pub setTo : Config → State → ℕ → State
-setTo c s time =
-    record {
-      clock = time;
-      samples = 0;
-      first = time;
-      lines = clearedLines (s .lines);
-      bills = s .bills;
-      meters = s .meters;
-      closed = closedAs c 1 (s .clock) (s .lines);
-    }
+setTo c s time = closedWith (atClock s time) time (closedAs c 1 (s .clock) (s .lines))
 
 -- a clock set: 9 where the time has no date
 abbrev pub setDated : Answer Moment → State → Answer State
@@ -49,13 +41,4 @@ closedBillAt registers bills clock j = closedBill (registerAt registers j) (bill
 
 -- a billing reset closes every register in use at once; all else goes on
 unfoldable pub resetOf : Config → State → State
-resetOf c s =
-    record {
-      clock = s .clock;
-      samples = s .samples;
-      first = s .first;
-      lines = s .lines;
-      bills = table 16 (closedBillAt (c .registers) (s .bills) (s .clock));
-      meters = s .meters;
-      closed = s .closed;
-    }
+resetOf c s = putIn s (s .clock) (s .samples) (s .lines) (table 16 (closedBillAt (c .registers) (s .bills) (s .clock)))

@@ -13,6 +13,7 @@ use Rattle.recorder.specs.declared.meters.Age.{Age}
 use Rattle.recorder.specs.declared.meters.Age.the-variants.{Awake, Stale, Invalid, Never}
 use Rattle.recorder.specs.declared.meters.AgeAnswer.{AgeAnswer}
 use Rattle.recorder.specs.declared.meters.AgeAnswer.the-variants.{Class, NotFitted, BadStatus}
+use Rattle.sampling.specs.declared.Meter.{Meter}
 use Rattle.sampling.specs.declared.State.{State}
 
 -- the numbers of the classes: 0 awake, 1 stale, 2 invalid, 3 never
@@ -43,19 +44,23 @@ ageSaid (Class age) = given (ageNumber age)
 ageSaid NotFitted = refused 8 0
 ageSaid BadStatus = refused 10 0
 
+-- a state with other readings
+abbrev pub withMeters : State → List Meter → State
+withMeters s meters =
+    record {
+      clock = s .clock;
+      samples = s .samples;
+      first = s .first;
+      lines = s .lines;
+      bills = s .bills;
+      meters = meters;
+      closed = s .closed;
+    }
+
 -- a reading: 7 for a meter above 31, 8 for one that is not fitted, 10 for a STATUS above 7 or a SEQ above 31; else it is stamped with the clock
 unfoldable pub readingOf : Config → State → ℕ → ℤ → ℕ → ℕ → Answer State
 readingOf c s meter value status seq =
     if ltb 31 meter then refused 7 0
     else if eqb (getD (c .limits) meter 0) 0 then refused 8 0
     else if ltb 7 status || ltb 31 seq then refused 10 0
-    else given
-    (record {
-      clock = s .clock;
-      samples = s .samples;
-      first = s .first;
-      lines = s .lines;
-      bills = s .bills;
-      meters = set (s .meters) meter (record { read = true; stamp = s .clock; value = value; status = status; seq = seq });
-      closed = s .closed;
-    })
+    else given (withMeters s (set (s .meters) meter (record { read = true; stamp = s .clock; value = value; status = status; seq = seq })))

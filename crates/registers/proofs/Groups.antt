@@ -14,7 +14,7 @@ use Rattle.laws.proofs.Tests.{by-test}
 use Rattle.settings.specs.declared.Config.{Config}
 use Rattle.recorder.specs.declared.Recorder.{Recorder}
 use Rattle.registers.specs.Contents.{padded}
-use Rattle.registers.specs.Registers.{Group, lookUp, fittedIn, heldBy, Shape, shapeOf, refusal, reading, replyOf}
+use Rattle.registers.specs.Registers.{Group, lookUp, usedIn, heldBy, Shape, shapeOf, refusal, registerRead, replyOf}
 
 -- a number that no line has finds nothing
 pub none-found : (gs : List Group) (n : ℕ) → Each (λ g. n ≡ g .number → ⊥) gs → lookUp gs n ≡ refused 11 0
@@ -23,7 +23,7 @@ none-found [] n each = refl
 none-found (g ∷ gs) n each = rw (ne-eqb n _ (each .0)) (none-found gs n (each .1))
 
 -- a number whose line, if there is one, has registers that are there always
-pub always-there : (gs : List Group) (n : ℕ) (c : Config) (i : ℕ) → Each (λ g. (n ≡ g .number → ⊥) ⊎ (g .inUse c i ≡ true)) gs → true ≡ fittedIn (lookUp gs n) c i
+pub always-there : (gs : List Group) (n : ℕ) (c : Config) (i : ℕ) → Each (λ g. (n ≡ g .number → ⊥) ⊎ (g .inUse c i ≡ true)) gs → true ≡ usedIn (lookUp gs n) c i
 unfolding lookUp
 always-there [] n c i each = refl
 always-there (g ∷ gs) n c i each =
@@ -80,16 +80,16 @@ module _ {a : Answer Group} {registers bytes : ℕ} (line : Found a registers by
   reply-12 h = rw (line .is, line .has, le-leb _ _ h)
 
   -- 8 NOT FITTED
-  pub reply-8 : i < registers → not (fittedIn a (r .config) i) ≡ true → refusal 8 buffer ≡ replyOf a r i buffer
+  pub reply-8 : i < registers → not (usedIn a (r .config) i) ≡ true → refusal 8 buffer ≡ replyOf a r i buffer
   reply-8 h t = let u = rw (line .is) at t in rw (line .is, line .has, lt-leb _ _ h, u)
 
   -- 13 NO ROOM
-  pub reply-13 : i < registers → not (fittedIn a (r .config) i) ≡ false → not (leb bytes (length buffer)) ≡ true → refusal 13 buffer ≡ replyOf a r i buffer
+  pub reply-13 : i < registers → not (usedIn a (r .config) i) ≡ false → not (leb bytes (length buffer)) ≡ true → refusal 13 buffer ≡ replyOf a r i buffer
   reply-13 h t s = let u = rw (line .is) at t in rw (line .is, line .has, line .long, lt-leb _ _ h, u, s)
 
   -- the register
-  pub reply-read : i < registers → not (fittedIn a (r .config) i) ≡ false → not (leb bytes (length buffer)) ≡ false
-      → reading bytes (heldBy a r i) buffer ≡ replyOf a r i buffer
+  pub reply-read : i < registers → not (usedIn a (r .config) i) ≡ false → not (leb bytes (length buffer)) ≡ false
+      → registerRead bytes (heldBy a r i) buffer ≡ replyOf a r i buffer
   reply-read h t s = let u = rw (line .is) at t in rw (line .is, line .has, line .long, lt-leb _ _ h, u, s)
 
 -- the buffer after its first bytes were taken from the register's, which have zeros after them

@@ -16,9 +16,9 @@ use Rattle.recorder.specs.Meters.{classOf}
 use Rattle.recorder.specs.declared.Recorder.{Recorder}
 use Rattle.counting.specs.declared.Bill.{Bill}
 use Rattle.sampling.specs.declared.Meter.{Meter}
-use Rattle.registers.specs.Contents.{statusShown, serialBytes, meterBytes, mapBytes, resultBytes, dailyBytes, weeklyBytes, level9Bytes, slotBytes, billBytes, inputBytes, fleetBytes, clockBytes}
+use Rattle.registers.specs.Contents.{statusShown, serialBytes, meterBytes, mapBytes, resultBytes, dailyBytes, weeklyBytes, level9Bytes, levelBytes, billBytes, filterBytes, fleetBytes, clockBytes}
 use Rattle.registers.specs.Fleet.{meterAt, meterClass, classAt}
-use Rattle.registers.specs.Registers.{Group, groups, lookUp, groupOf, heldBy, Reply, refusal, reading, replyOf, registerReply}
+use Rattle.registers.specs.Registers.{Group, groups, lookUp, groupOf, heldBy, RegisterReply, refusal, registerRead, replyOf, registerReply}
 use Rattle.registers.specs.Laws.{BytesAsTable, RefusedLeaves, GivenFirst, MarkedByClass, UnmarkedByClass}
 use Rattle.registers.proofs.Groups.{each-found, is-given, the}
 
@@ -35,7 +35,7 @@ unfolding bytesOf billBytes
 bill-long b = by-test (b .reset) (λ e. rw e) (λ e. rw e)
 
 pub bytes-as-table : BytesAsTable
-unfolding groups bytesOf meterBytes mapBytes resultBytes dailyBytes weeklyBytes slotBytes inputBytes fleetBytes clockBytes
+unfolding groups bytesOf meterBytes mapBytes resultBytes dailyBytes weeklyBytes levelBytes filterBytes fleetBytes clockBytes
 bytes-as-table = (
   λ r i. serial-long _ _,
   (
@@ -63,9 +63,9 @@ bytes-as-table = (
 )
 
 -- a claim on replies, by the way that a request goes
-by-way : (P : Reply → Type 0) (g : Group) (r : Recorder) (i : ℕ) (buffer : List ℕ)
+by-way : (P : RegisterReply → Type 0) (g : Group) (r : Recorder) (i : ℕ) (buffer : List ℕ)
     → P (refusal 12 buffer) → P (refusal 8 buffer) → P (refusal 13 buffer)
-    → (leb (g .bytes) (length buffer) ≡ true → P (reading (g .bytes) (g .holds r i) buffer))
+    → (leb (g .bytes) (length buffer) ≡ true → P (registerRead (g .bytes) (g .holds r i) buffer))
     → P (replyOf (given g) r i buffer)
 by-way P g r i buffer no-register not-fitted no-room read =
     if-cases P (leb (g .registers) i) (λ e. no-register)

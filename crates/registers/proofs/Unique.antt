@@ -7,7 +7,7 @@ use Rattle.laws.specs.Answers.{Answer, given, refused}
 use Rattle.laws.specs.If.{if_then_else_}
 use Rattle.laws.specs.Unique.{OneResult, OneExit}
 use Rattle.laws.proofs.Unique.{told-apart}
-use Rattle.registers.specs.Registers.{registerSaid, Reply}
+use Rattle.registers.specs.Registers.{registerSaid, RegisterReply}
 use Rattle.registers.specs.declared.RegisterAnswer.{RegisterAnswer}
 use Rattle.registers.specs.declared.RegisterAnswer.the-variants.{Given, NoGroup, NoRegister, NotFitted, NoRoom}
 use Rattle.registers.proofs.read_register.Reads as read-register-reads
@@ -29,11 +29,11 @@ register-apart = told-apart registerSaid back told
     told NoRoom = refl
 
 pub read-register-once : OneResult read-register-reads.Post
-read-register-once κs a x y e f p q = register-apart x y (ap (λ (r : Reply). r .answer) (p ∙ sym q))
+read-register-once κs a x y e f p q = register-apart x y (ap (λ (r : RegisterReply). r .answer) (p ∙ sym q))
 
 -- the buffer is the fourth parameter
 pub read-register-exit : OneExit (λ κs e. now (e .1 .1 .1 .0)) read-register-reads.Post
-read-register-exit κs a x y e f p q = ap (λ (r : Reply). r .buffer) (p ∙ sym q)
+read-register-exit κs a x y e f p q = ap (λ (r : RegisterReply). r .buffer) (p ∙ sym q)
 
 pub fleet-of-once : OneResult fleet-of-reads.Post
 fleet-of-once κs a x y e f p q = p ∙ sym q

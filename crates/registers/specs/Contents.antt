@@ -75,8 +75,8 @@ abbrev pub valueAt : List ℤ → ℕ → ℤ
 valueAt values i = getD values i (pos 0)
 
 -- the register of slot i
-unfoldable pub slotBytes : State → ℕ → List ℕ
-slotBytes s i = level9Bytes (s .closed .state) (s .closed .stamp) (valueAt (s .closed .values) i)
+unfoldable pub levelBytes : State → ℕ → List ℕ
+levelBytes s i = level9Bytes (s .closed .state) (s .closed .stamp) (valueAt (s .closed .values) i)
 
 -- "202 bill: state (0 never reset, 1) 1, open 4, closed 4, stamp 4; the last two zero if never reset"
 unfoldable pub billBytes : Bill → List ℕ
@@ -85,8 +85,8 @@ billBytes b =
     else bytesOf 1 0 ++ (bytesOf 4 (b .amount) ++ (bytesOf 4 0 ++ bytesOf 4 0))
 
 -- "203 input: rejected 2, remainder 2"
-unfoldable pub inputBytes : Line → List ℕ
-inputBytes line = bytesOf 2 (line .rejected) ++ bytesOf 2 (line .remainder)
+unfoldable pub filterBytes : Line → List ℕ
+filterBytes line = bytesOf 2 (line .rejected) ++ bytesOf 2 (line .remainder)
 
 -- "204 fleet: fitted, awake, stale, invalid, never 1 each; signed sum of awake values 8"
 unfoldable pub fleetBytes : Fleet → List ℕ

@@ -12,7 +12,7 @@ use Rattle.counting.specs.Filter.{lineAt}
 use Rattle.counting.specs.Bills.{billAt}
 use Rattle.recorder.specs.declared.Recorder.{Recorder}
 use Rattle.registers.specs.Fleet.{fleetOf}
-use Rattle.registers.specs.Contents.{meterBytes, mapBytes, dailyBytes, weeklyBytes, slotBytes, billBytes, inputBytes, fleetBytes, clockBytes}
+use Rattle.registers.specs.Contents.{meterBytes, mapBytes, dailyBytes, weeklyBytes, levelBytes, billBytes, filterBytes, fleetBytes, clockBytes}
 use Rattle.registers.specs.declared.Layout.{Layout}
 use Rattle.registers.specs.declared.Layout.the-variants as layout
 use Rattle.registers.specs.declared.RegisterAnswer.{RegisterAnswer}
@@ -57,9 +57,9 @@ groups =
     ∷ line 89 1 2 always (λ r i. mapBytes (r .config .program) (r .state .clock))
     ∷ line 90 32 1 always (λ r i. dailyBytes (r .config .program) i (r .state .clock))
     ∷ line 91 16 1 always (λ r i. weeklyBytes (r .config .program) i (r .state .clock))
-    ∷ line 201 16 13 slotInUse (λ r i. slotBytes (r .state) i)
+    ∷ line 201 16 13 slotInUse (λ r i. levelBytes (r .state) i)
     ∷ line 202 16 13 billInUse (λ r i. billBytes (billAt (r .state .bills) i))
-    ∷ line 203 16 4 inputFitted (λ r i. inputBytes (lineAt (r .state .lines) i))
+    ∷ line 203 16 4 inputFitted (λ r i. filterBytes (lineAt (r .state .lines) i))
     ∷ line 204 1 13 always (λ r i. fleetBytes (fleetOf r))
     ∷ line 206 1 5 always (λ r i. clockBytes (r .state .clock) (r .state .samples))
     ∷ []
@@ -83,13 +83,13 @@ abbrev pub registersOf : ℕ → ℕ
 registersOf n = registersIn (groupOf n)
 
 -- a register of a group is in use
-abbrev pub fittedIn : Answer Group → Config → ℕ → Bool
-fittedIn (given g) c i = g .inUse c i
-fittedIn (refused n offset) c i = true
+abbrev pub usedIn : Answer Group → Config → ℕ → Bool
+usedIn (given g) c i = g .inUse c i
+usedIn (refused n offset) c i = true
 
 -- a register of the group of a number is in use
 abbrev pub fitted : Config → ℕ → ℕ → Bool
-fitted c n i = fittedIn (groupOf n) c i
+fitted c n i = usedIn (groupOf n) c i
 
 -- what a register of a group holds
 abbrev pub heldBy : Answer Group → Recorder → ℕ → List ℕ
@@ -128,31 +128,31 @@ registerSaid NotFitted = refused 8 0
 registerSaid NoRoom = refused 13 0
 
 -- a reply: the answer, and the buffer after the call
-pub record Reply : Type 0 where
+pub record RegisterReply : Type 0 where
   pub answer : Answer ℕ
   pub buffer : List ℕ
 
 -- the code's answer with the buffer after the call
-abbrev pub replied : RegisterAnswer → List ℕ → Reply
+abbrev pub replied : RegisterAnswer → List ℕ → RegisterReply
 replied answer buffer = record { answer = registerSaid answer; buffer = buffer }
 
 -- a refusal: "a refused call changes no byte of any buffer lent to it"
-abbrev pub refusal : ℕ → List ℕ → Reply
+abbrev pub refusal : ℕ → List ℕ → RegisterReply
 refusal n buffer = record { answer = refused n 0; buffer = buffer }
 
 -- a register read: "only as many first bytes of the buffer as the register .. has" are changed
-abbrev pub reading : ℕ → List ℕ → List ℕ → Reply
-reading n bytes buffer = record { answer = given n; buffer = bytes ++ drop n buffer }
+abbrev pub registerRead : ℕ → List ℕ → List ℕ → RegisterReply
+registerRead n bytes buffer = record { answer = given n; buffer = bytes ++ drop n buffer }
 
 -- the reply to a request of a group: 11, 12, 8, 13, else the register
-abbrev pub replyOf : Answer Group → Recorder → ℕ → List ℕ → Reply
+abbrev pub replyOf : Answer Group → Recorder → ℕ → List ℕ → RegisterReply
 replyOf (refused n offset) r i buffer = refusal n buffer
 replyOf (given g) r i buffer =
     if leb (g .registers) i then refusal 12 buffer
     else if not (g .inUse (r .config) i) then refusal 8 buffer
     else if not (leb (g .bytes) (length buffer)) then refusal 13 buffer
-    else reading (g .bytes) (g .holds r i) buffer
+    else registerRead (g .bytes) (g .holds r i) buffer
 
 -- the reply to a request of a group's number and a register
-unfoldable pub registerReply : Recorder → ℕ → ℕ → List ℕ → Reply
+unfoldable pub registerReply : Recorder → ℕ → ℕ → List ℕ → RegisterReply
 registerReply r group register buffer = replyOf (groupOf group) r register buffer

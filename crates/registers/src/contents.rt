@@ -17,7 +17,7 @@ use recorder::State;
 use tariff::Program;
 ghost use mathlib.Core.Path.{_≡_};
 ghost use Prim.Native.Nat.{_<_};
-ghost use Rattle.registers.specs.Contents.{padded, statusShown, serialBytes, mapBytes, resultBytes, dailyBytes, weeklyBytes, valueAt, level9Bytes, billBytes, inputBytes, fleetBytes, clockBytes, meterBytes, slotBytes};
+ghost use Rattle.registers.specs.Contents.{padded, statusShown, serialBytes, mapBytes, resultBytes, dailyBytes, weeklyBytes, valueAt, level9Bytes, billBytes, filterBytes, fleetBytes, clockBytes, meterBytes, levelBytes};
 ghost use Rattle.registers.specs.Registers.{registersOf, contentsOf};
 
 // IV is the lowest bit: set unless the meter is awake.
@@ -109,7 +109,7 @@ fn bill(bill: Bill) -> [u8; 13]
 
 // Group 203.
 fn input(line: Line) -> [u8; 13]
-    ensures { λ r. ⌜ r ≡ padded (inputBytes line) ⌝ }
+    ensures { λ r. ⌜ r ≡ padded (filterBytes line) ⌝ }
 {
     let blank = [0u8; 13];
     let rejected = with_number(blank, 0, 2, line.rejected as u64);
@@ -152,7 +152,7 @@ fn meter(config: Config, state: State, i: usize) -> [u8; 13]
 // Group 201 of a slot.
 fn slot(state: State, i: usize) -> [u8; 13]
     requires { ⌜ i < 16 ⌝ }
-    ensures { λ r. ⌜ r ≡ padded (slotBytes state i) ⌝ }
+    ensures { λ r. ⌜ r ≡ padded (levelBytes state i) ⌝ }
 {
     let closed = state.closed;
     let values = closed.values;

@@ -5,7 +5,7 @@ use lib.Dec.{eqb}
 use Rattle.laws.specs.If.{if_then_else_}
 use Rattle.laws.specs.Unique.{OneResult}
 use Rattle.laws.proofs.Unique.{told-apart}
-use Rattle.sampling.specs.Samples.{numberOf, Run, said}
+use Rattle.sampling.specs.Samples.{sampleNumber, Run, takenSaid}
 use Rattle.sampling.specs.Laps.{LapReply}
 use Rattle.sampling.specs.declared.samples.Taking.{Taking}
 use Rattle.sampling.specs.declared.SampleAnswer.{SampleAnswer}
@@ -18,13 +18,13 @@ use Rattle.sampling.proofs.clock.close_period.Reads as close-period-rea
 use Rattle.sampling.proofs.clock.close.Reads as close-reads
 
 -- document 01's number tells all answers to a sample apart
-pub sample-apart : (x y : SampleAnswer) → numberOf x ≡ numberOf y → x ≡ y
-sample-apart = told-apart numberOf back told
+pub sample-apart : (x y : SampleAnswer) → sampleNumber x ≡ sampleNumber y → x ≡ y
+sample-apart = told-apart sampleNumber back told
   where
     back : ℕ → SampleAnswer
     back n = if eqb n 5 then ClockEnd else if eqb n 6 then Full else Taken
 
-    told : (x : SampleAnswer) → back (numberOf x) ≡ x
+    told : (x : SampleAnswer) → back (sampleNumber x) ≡ x
     told Taken = refl
     told ClockEnd = refl
     told Full = refl
@@ -48,7 +48,7 @@ take-once κs a x y e f p q =
     (λ i. record { state = state i; taken = taken i; answer = answer i; closes = closes i })
 
 -- two answers to a run that say the same are the same
-same-taking : (x y : Taking) → said x ≡ said y → x ≡ y
+same-taking : (x y : Taking) → takenSaid x ≡ takenSaid y → x ≡ y
 same-taking x y s =
     let state = ap (λ (r : Run). r .state) s in
     let taken = ap (λ (r : Run). r .taken) s in

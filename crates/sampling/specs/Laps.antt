@@ -6,8 +6,8 @@ use lib.Dec.{leb, eqb}
 use Rattle.laws.specs.If.{if_then_else_}
 use Rattle.laws.specs.Answers.{Answer, given, refused}
 use Rattle.settings.specs.declared.Config.{Config}
-use Rattle.sampling.specs.Periods.{multiple, clearedLines, closedAs, stateOf}
-use Rattle.sampling.specs.Samples.{bookingOn, putIn, clockEnd, numberOf}
+use Rattle.sampling.specs.Periods.{multiple, closedAs, stateOf, closedWith}
+use Rattle.sampling.specs.Samples.{bookingOn, putIn, clockEnd, sampleNumber}
 use Rattle.sampling.specs.declared.State.{State}
 use Rattle.sampling.specs.declared.samples.Lap.{Lap}
 
@@ -30,16 +30,7 @@ closing c s = eqb (s .samples) 0 && multiple (c .period) (s .clock)
 
 -- the period of a state closes with its present second, and the next begins
 unfoldable pub closedHere : Config → State → State
-closedHere c s =
-    record {
-      clock = s .clock;
-      samples = s .samples;
-      first = s .clock;
-      lines = clearedLines (s .lines);
-      bills = s .bills;
-      meters = s .meters;
-      closed = closedAs c (stateOf (c .period) (s .first)) (s .clock) (s .lines);
-    }
+closedHere c s = closedWith s (s .clock) (closedAs c (stateOf (c .period) (s .first)) (s .clock) (s .lines))
 
 -- a run to the first closing: how many samples were taken, the number of the refusal that ended it or 0, whether a period is to close, and the state
 pub record LapReply : Type 0 where
@@ -64,4 +55,4 @@ lapOf c s (bits ∷ more) = lapOn c s (sampleOpen c s bits) (λ next. lapOf c ne
 
 -- what the code's answer to such a run says
 abbrev pub lapSaid : Lap → LapReply
-lapSaid t = record { taken = t .taken; number = numberOf (t .answer); closes = t .closes; state = t .state }
+lapSaid t = record { taken = t .taken; number = sampleNumber (t .answer); closes = t .closes; state = t .state }

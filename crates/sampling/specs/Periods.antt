@@ -18,12 +18,12 @@ unfoldable pub multiple : ℕ → ℕ → Bool
 multiple period time = if eqb (period * 60) 0 then false else eqb (time % (period * 60)) 0
 
 -- level 0 of a line begins anew
-unfoldable pub cleared : Line → Line
-cleared line = record { run = line .run; rejected = line .rejected; remainder = line .remainder; units = 0 }
+unfoldable pub begunAnew : Line → Line
+begunAnew line = record { run = line .run; rejected = line .rejected; remainder = line .remainder; units = 0 }
 
 -- line i at the start of a period
 unfoldable pub clearedAt : List Line → ℕ → Line
-clearedAt lines i = cleared (lineAt lines i)
+clearedAt lines i = begunAnew (lineAt lines i)
 
 -- all lines at the start of a period
 unfoldable pub clearedLines : List Line → List Line
@@ -37,21 +37,10 @@ closedAs c state stamp lines = record { state = state; stamp = stamp; values = s
 abbrev pub stateOf : ℕ → ℕ → ℕ
 stateOf period first = if multiple period first then 2 else 1
 
--- the step: a new second, and on a multiple the period closes with the new time and the next begins
-unfoldable pub tickOf : Config → State → State
-tickOf c s =
-    let now = s .clock + 1 in
-    if multiple (c .period) now
-    then record {
-      clock = now;
-      samples = 0;
-      first = now;
-      lines = clearedLines (s .lines);
-      bills = s .bills;
-      meters = s .meters;
-      closed = closedAs c (stateOf (c .period) (s .first)) now (s .lines);
-    }
-    else record {
+-- a state at another second, with no sample in it yet
+abbrev pub atClock : State → ℕ → State
+atClock s now =
+    record {
       clock = now;
       samples = 0;
       first = s .first;
@@ -60,3 +49,22 @@ tickOf c s =
       meters = s .meters;
       closed = s .closed;
     }
+
+-- a state whose period has closed, and whose next begins with a second
+abbrev pub closedWith : State → ℕ → Period → State
+closedWith s now period =
+    record {
+      clock = s .clock;
+      samples = s .samples;
+      first = now;
+      lines = clearedLines (s .lines);
+      bills = s .bills;
+      meters = s .meters;
+      closed = period;
+    }
+
+-- the step: a new second, and on a multiple the period closes with the new time and the next begins
+unfoldable pub tickOf : Config → State → State
+tickOf c s =
+    let now = s .clock + 1 in
+    if multiple (c .period) now then closedWith (atClock s now) now (closedAs c (stateOf (c .period) (s .first)) now (s .lines)) else atClock s now

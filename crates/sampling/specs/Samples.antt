@@ -93,11 +93,11 @@ samplesOf c s [] = record { taken = 0; number = 0; state = s }
 samplesOf c s (bits ∷ more) = onward s (sampleOf c s bits) (λ next. samplesOf c next more)
 
 -- document 01's number of an answer; 0 where the sample was taken
-abbrev pub numberOf : SampleAnswer → ℕ
-numberOf Taken = 0
-numberOf ClockEnd = 5
-numberOf Full = 6
+abbrev pub sampleNumber : SampleAnswer → ℕ
+sampleNumber Taken = 0
+sampleNumber ClockEnd = 5
+sampleNumber Full = 6
 
 -- what the code's answer to a run says
-abbrev pub said : Taking → Run
-said t = record { taken = t .taken; number = numberOf (t .answer); state = t .state }
+abbrev pub takenSaid : Taking → Run
+takenSaid t = record { taken = t .taken; number = sampleNumber (t .answer); state = t .state }

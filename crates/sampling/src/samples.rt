@@ -21,7 +21,7 @@ ghost use mathlib.Core.Path.{_≡_};
 ghost use Prim.Native.Nat.{_+_, _-_, _≤_};
 ghost use mathlib.Core.List.{[], _∷_};
 ghost use lib.ListN.{length};
-ghost use Rattle.sampling.specs.Samples.{putIn, samplesOf, said};
+ghost use Rattle.sampling.specs.Samples.{putIn, samplesOf, takenSaid};
 ghost use Rattle.sampling.specs.Laps.{lapOf, lapSaid};
 ghost use Rattle.sampling.specs.Kept.{Idle, restoredLines};
 
@@ -221,7 +221,7 @@ pub fn take(config: Config, start: State, bits: &[u16]) -> Lap
 
 // The samples one after another, up to the first refusal: lap after lap, with the closings between them.
 pub fn run(config: Config, start: State, bits: &[u16]) -> Taking
-    ensures { λ r. ⌜ said r ≡ samplesOf config start (now (bits .entry)) ⌝ }
+    ensures { λ r. ⌜ takenSaid r ≡ samplesOf config start (now (bits .entry)) ⌝ }
 {
     let mut now = start;
     let mut k: usize = 0;
@@ -243,7 +243,7 @@ pub fn run(config: Config, start: State, bits: &[u16]) -> Taking
 
 // One sample, with the closing that it may bring.
 pub fn one(config: Config, start: State, bits: u16) -> Taking
-    ensures { λ r. ⌜ said r ≡ samplesOf config start (bits ∷ []) ⌝ }
+    ensures { λ r. ⌜ takenSaid r ≡ samplesOf config start (bits ∷ []) ⌝ }
 {
     let alone = [bits];
     let lap = take(config, start, &alone);

@@ -7,6 +7,31 @@ ghost use Prim.Native.Nat.{_+_, _*_, _<_};
 ghost use Rattle.settings.specs.Check.{verdictAt, orElse, checked};
 ghost use Rattle.settings.specs.Verdicts.{verdictSaid};
 
+// Where the sections of the image begin: the offset of a bad entry is reckoned from here, and the image is read and written there.
+pub const PERIOD_AT: usize = 5;
+
+pub const INPUTS_AT: usize = 6;
+
+pub const SUMS_AT: usize = 118;
+
+pub const COEFFICIENTS_AT: usize = 134;
+
+pub const SLOTS_AT: usize = 166;
+
+pub const LIMITS_AT: usize = 198;
+
+pub const WINDOWS_AT: usize = 262;
+
+pub const WEEKS_AT: usize = 774;
+
+pub const SEASONS_AT: usize = 902;
+
+pub const HOLIDAYS_AT: usize = 934;
+
+pub const RULES_AT: usize = 1062;
+
+pub const REGISTERS_AT: usize = 1094;
+
 // One impulse input. Kind 0 is not fitted, 1 S1a, 2 S1r.
 pub struct Input {
     pub kind: u8,
@@ -81,19 +106,22 @@ pub fn check_config(config: Config) -> Verdict
     let weeks = program.weeks;
     let seasons = program.seasons;
     let holidays = program.holidays;
-    let rules = program.rules;
+    let tariffs = program.rules;
     let registers = config.registers;
     let fitted = rules::fitted(inputs);
     let mut v = Verdict::Good;
-    v = or_else(section(1094, 2, 16, rules::registers(registers)), v);
-    v = or_else(section(1062, 2, 16, rules::rules(rules)), v);
-    v = or_else(section(934, 4, 32, rules::holidays(holidays)), v);
-    v = or_else(section(902, 4, 8, rules::seasons(seasons)), v);
-    v = or_else(section(774, 1, 128, rules::weeks(weeks)), v);
-    v = or_else(section(262, 4, 128, rules::windows(windows)), v);
-    v = or_else(section(166, 2, 16, rules::slots(fitted, slots)), v);
-    v = or_else(section(134, 1, 32, rules::coefficients(coefficients)), v);
-    v = or_else(section(118, 2, 8, rules::sums(fitted, sums)), v);
-    v = or_else(section(6, 7, 16, rules::inputs(inputs)), v);
-    or_else(section(5, 1, 1, rules::periods(config.period)), v)
+    v = or_else(section(REGISTERS_AT, 2, 16, rules::registers(registers)), v);
+    v = or_else(section(RULES_AT, 2, 16, rules::tariff_rules(tariffs)), v);
+    v = or_else(section(HOLIDAYS_AT, 4, 32, rules::holidays(holidays)), v);
+    v = or_else(section(SEASONS_AT, 4, 8, rules::seasons(seasons)), v);
+    v = or_else(section(WEEKS_AT, 1, 128, rules::weeks(weeks)), v);
+    v = or_else(section(WINDOWS_AT, 4, 128, rules::windows(windows)), v);
+    v = or_else(section(SLOTS_AT, 2, 16, rules::slots(fitted, slots)), v);
+    v = or_else(
+        section(COEFFICIENTS_AT, 1, 32, rules::coefficients(coefficients)),
+        v,
+    );
+    v = or_else(section(SUMS_AT, 2, 8, rules::sums(fitted, sums)), v);
+    v = or_else(section(INPUTS_AT, 7, 16, rules::inputs(inputs)), v);
+    or_else(section(PERIOD_AT, 1, 1, rules::periods(config.period)), v)
 }

@@ -230,7 +230,7 @@ pub(crate) fn holidays(xs: [Holiday; 32]) -> usize
     i
 }
 
-pub(crate) fn rules(xs: [Rule; 16]) -> usize
+pub(crate) fn tariff_rules(xs: [Rule; 16]) -> usize
     ensures { λ r. ⌜ r ≡ firstBroken 16 (λ i. ruleGood (getD xs i noRule)) ⌝ }
 {
     let mut i = 0;

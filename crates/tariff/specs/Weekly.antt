@@ -21,8 +21,8 @@ abbrev pub unusedHoliday : Holiday → Bool
 unusedHoliday h = (eqb (h .day) 0 && eqb (h .month) 0) && eqb (h .year) 0
 
 -- a holiday in use fits its day of its year; year 0 is each year
-abbrev pub fits : Holiday → ℕ → ℕ → ℕ → Bool
-fits h day month year =
+abbrev pub holidayFits : Holiday → ℕ → ℕ → ℕ → Bool
+holidayFits h day month year =
     ((not (unusedHoliday h) && eqb (h .day) day) && eqb (h .month) month) && (eqb (h .year) 0 || eqb (h .year) year)
 
 -- holiday k as an entry of the program
@@ -31,7 +31,7 @@ holidayAt p k = getD (p .holidays) k (record { day = 0; month = 0; year = 0 })
 
 -- holiday k fits a day
 unfoldable pub fitsAt : Program → ℕ → ℕ → ℕ → ℕ → Bool
-fitsAt p day month year k = fits (holidayAt p k) day month year
+fitsAt p day month year k = holidayFits (holidayAt p k) day month year
 
 -- the first of the 32 holidays that fits a day
 unfoldable pub firstHoliday : Program → ℕ → ℕ → ℕ → Option ℕ

@@ -5,7 +5,7 @@ ghost use mathlib.Core.Path.{_≡_};
 ghost use Prim.Native.Nat.{_<_, _^_};
 ghost use Rattle.laws.specs.Masks.{withBit, bitAt};
 ghost use Rattle.tariff.specs.Daily.{inWindow, dailyActive, dailyMap};
-ghost use Rattle.tariff.specs.Weekly.{fits, placeOf, firstHoliday, columnOf, columnOn, referenceIn, minuteOf, weeklyActive, weeklyMap};
+ghost use Rattle.tariff.specs.Weekly.{holidayFits, placeOf, firstHoliday, columnOf, columnOn, referenceIn, minuteOf, weeklyActive, weeklyMap};
 ghost use Rattle.tariff.specs.Seasons.{dateOf, notAfter, inSeason, seasonActive, seasonMap};
 ghost use Rattle.tariff.specs.Rules.{inForce, forceMap, forceMapAt};
 
@@ -113,7 +113,7 @@ pub fn daily_map(program: Program, minute: u16) -> u32
 }
 
 fn holiday_fits(h: Holiday, day: u8, month: u8, year: u16) -> bool
-    ensures { λ r. ⌜ r ≡ fits h day month year ⌝ }
+    ensures { λ r. ⌜ r ≡ holidayFits h day month year ⌝ }
 {
     if h.day != day {
         return false;

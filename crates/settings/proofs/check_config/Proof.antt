@@ -33,7 +33,7 @@ returns c =
     (verdict-before 774 1 128 (s5 .before .before .weeks2 .ensures) (s5 .before .section5 .ensures) (s5 .or-else5 .ensures)
     (verdict-before 902 4 8 (s4 .before .before .seasons2 .ensures) (s4 .before .section4 .ensures) (s4 .or-else4 .ensures)
     (verdict-before 934 4 32 (s3 .before .before .holidays2 .ensures) (s3 .before .section3 .ensures) (s3 .or-else3 .ensures)
-    (verdict-before 1062 2 16 (s2 .before .before .rules2 .ensures) (s2 .before .section2 .ensures) (s2 .or-else2 .ensures)
+    (verdict-before 1062 2 16 (s2 .before .before .tariff-rules .ensures) (s2 .before .section2 .ensures) (s2 .or-else2 .ensures)
     (verdict-before 1094 2 16 (s1 .before .before .registers2 .ensures) (s1 .before .section .ensures) (s1 .or-else .ensures)
     refl)))))))))))
 

@@ -2,12 +2,12 @@
 use native.Mathlib.Nat.{add-zero}
 use borrow.Author.Needs.{needs}
 use lib.Seq.{getD-drop}
-use Rattle.image.specs.Entries.{dateOf}
+use Rattle.image.specs.Entries.{dateIn}
 use Rattle.image.proofs.read.date.Statement.{statement}
 use Rattle.image.proofs.read.date.Tie as tie
 
 returns : tie.Need-returns
-unfolding dateOf
+unfolding dateIn
 returns c = simp (getD-drop, add-zero)
 
 pub date-spec : {M : Type 1} → statement M

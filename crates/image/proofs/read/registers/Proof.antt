@@ -2,12 +2,12 @@
 use Prim.Native.Nat.{_-_}
 use borrow.Author.Needs.{needs}
 use Rattle.laws.proofs.Runs.{Filled, filled-none, filled-more, filled-all}
-use Rattle.image.specs.Entries.{registerOf}
+use Rattle.image.specs.Entries.{registerIn}
 use Rattle.image.proofs.read.registers.Statement.{statement}
 use Rattle.image.proofs.read.registers.Tie as tie
 
 abbrev Inv-loop : tie.InvT-loop
-Inv-loop s base r₀ i₀ r i = Filled registerOf 2 16 s base r i
+Inv-loop s base r₀ i₀ r i = Filled registerIn 2 16 s base r i
 
 abbrev μ-loop : tie.MeasureT-loop
 μ-loop s base r₀ i₀ r i = 16 - i

@@ -9,7 +9,7 @@ use borrow.Author.Tests.{lt-ltb, leb-true, not-true, not-false}
 use lib.Dec.{ltb}
 use lib.ListN.{length, getD, drop}
 use Rattle.laws.proofs.Tests.{by-test, and-left}
-use Rattle.lines.specs.Numbers.{isDigit, isNumber, valueFrom, numberOf, noNumber}
+use Rattle.lines.specs.Numbers.{isDigit, isNumber, valueFrom, wholeOf, noNumber}
 use Rattle.lines.proofs.Digits.{goesOn, too-large, on-turn, value-turn, on-letter, on-end, value-end}
 use Rattle.lines.proofs.numbers.read_number.Statement.{statement}
 use Rattle.lines.proofs.numbers.read_number.Tie as tie
@@ -24,17 +24,17 @@ abbrev μ-loop : tie.MeasureT-loop
 μ-loop w most value₀ i₀ value i = length w - i
 
 -- a word that is no number
-none-of : (most : ℕ) (w : List ℕ) → goesOn most 0 w ≡ false → numberOf most w ≡ noNumber
-unfolding numberOf isNumber goesOn
+none-of : (most : ℕ) (w : List ℕ) → goesOn most 0 w ≡ false → wholeOf most w ≡ noNumber
+unfolding wholeOf isNumber goesOn
 none-of most w e = rw e (by-test (ltb 0 (length w)) (λ t. rw t) (λ t. rw t))
 
 -- and one that is
-one-of : (most : ℕ) (w : List ℕ) → (length w ≡ 0 → ⊥) → goesOn most 0 w ≡ true → numberOf most w ≡ record { ok = true; value = valueFrom 0 w }
-unfolding numberOf isNumber goesOn
+one-of : (most : ℕ) (w : List ℕ) → (length w ≡ 0 → ⊥) → goesOn most 0 w ≡ true → wholeOf most w ≡ record { ok = true; value = valueFrom 0 w }
+unfolding wholeOf isNumber goesOn
 one-of most w h e = rw (e, lt-ltb 0 (length w) (omega arith))
 
 returns : tie.Need-returns Inv-loop μ-loop
-unfolding numberOf isNumber
+unfolding wholeOf isNumber
 returns c = let e = c .none .ensures in rw e (rw (c .before .if1 .taken) refl, omega arith)
 
 loop-holds : tie.Need-loop-holds Inv-loop μ-loop

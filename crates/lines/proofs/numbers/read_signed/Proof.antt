@@ -14,7 +14,7 @@ use mir.Val.{toZ, ofZ}
 use mir.Facts.{toZ-pos, toZ-neg}
 use borrow.Author.Needs.{needs}
 use borrow.Author.Tests.{eq-eqb, ne-eqb}
-use Rattle.lines.specs.Numbers.{isNumber, numberOf, signedOf}
+use Rattle.lines.specs.Numbers.{isNumber, wholeOf, signedOf}
 use Rattle.lines.proofs.numbers.read_signed.Statement.{statement}
 use Rattle.lines.proofs.numbers.read_signed.Tie as tie
 use Rattle.lines.proofs.numbers.read_signed.Reads as reads
@@ -22,7 +22,7 @@ use Rattle.lines.proofs.numbers.read_signed.Lts as lts
 
 -- an empty word is no number
 empty : (w : List ℕ) → length w ≡ 0 → record { ok = false; value = pos 0 } ≡ signedOf w
-unfolding signedOf numberOf isNumber
+unfolding signedOf wholeOf isNumber
 empty [] h = refl
 empty (b ∷ rest) h = absurd (omega arith)
 

@@ -1,18 +1,18 @@
 -- `recorder::calls::set` meets its contract: the arm knows the calendar's answer.
 use mathlib.Core.Path.{sym, ap, _∙_}
 use borrow.Author.Needs.{needs}
-use Rattle.calendar.specs.Moments.{said}
+use Rattle.calendar.specs.Moments.{datedSaid}
 use Rattle.recorder.specs.Clock.{setOf}
 use Rattle.recorder.proofs.calls.set.Statement.{statement}
 use Rattle.recorder.proofs.calls.set.Tie as tie
 
 returns : tie.Need-returns
 unfolding setOf
-returns c = rw (sym (c .before .before .before .moment-of .ensures) ∙ ap said (c .before .enum-told .given .1), c .set-to .ensures)
+returns c = rw (sym (c .before .before .before .moment-of .ensures) ∙ ap datedSaid (c .before .enum-told .given .1), c .set-to .ensures)
 
 returns-2 : tie.Need-returns-2
 unfolding setOf
-returns-2 c = rw (sym (c .before .before .moment-of .ensures) ∙ ap said (c .enum-told2 .given .1))
+returns-2 c = rw (sym (c .before .before .moment-of .ensures) ∙ ap datedSaid (c .enum-told2 .given .1))
 
 pub set-spec : {M : Type 1} → statement M
 set-spec =

@@ -2,12 +2,12 @@
 use mathlib.Core.Path.{_∙_}
 use borrow.Author.Needs.{needs}
 use Rattle.laws.specs.Bytes.{bytesOf}
-use Rattle.registers.specs.Contents.{inputBytes}
+use Rattle.registers.specs.Contents.{filterBytes}
 use Rattle.registers.proofs.contents.input.Statement.{statement}
 use Rattle.registers.proofs.contents.input.Tie as tie
 
 returns : tie.Need-returns
-unfolding bytesOf inputBytes
+unfolding bytesOf filterBytes
 returns c = c .with-number2 .ensures ∙ rw (c .before .before .with-number .ensures)
 
 pub input-spec : {M : Type 1} → statement M

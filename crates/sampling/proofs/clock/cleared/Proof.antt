@@ -5,7 +5,7 @@ use native.Mathlib.Omega.{arith}
 use borrow.Author.Needs.{needs}
 use Rattle.laws.proofs.Arrays.{length-mapped}
 use Rattle.laws.proofs.Tables.{fillTo, fill-none, fill-more, fill-done}
-use Rattle.sampling.specs.Periods.{cleared, clearedAt, clearedLines}
+use Rattle.sampling.specs.Periods.{begunAnew, clearedAt, clearedLines}
 use Rattle.sampling.proofs.clock.cleared.Statement.{statement}
 use Rattle.sampling.proofs.clock.cleared.Tie as tie
 
@@ -19,7 +19,7 @@ loop-holds : tie.Need-loop-holds Inv-loop μ-loop
 loop-holds c = (search needs, fill-none _ _)
 
 loop-again : tie.Need-loop-again Inv-loop μ-loop
-unfolding clearedAt cleared
+unfolding clearedAt begunAnew
 loop-again c = (omega arith, fill-more _ _ _ _ _ (c .before .before .loop .inv .1) refl)
 
 returns : tie.Need-returns Inv-loop μ-loop

@@ -19,7 +19,7 @@ use Rattle.counting.specs.Filter.{inputAt, lineAt, nextRun}
 use Rattle.counting.specs.Bills.{unitAt}
 use Rattle.counting.specs.ByMask.{runningLines, withRun, advancedAt, advancedLines, settled, settledUnits, settledAt, settledUnitsAt, settledOf, withAmounts}
 use Rattle.counting.specs.declared.Line.{Line}
-use Rattle.sampling.specs.Samples.{activeLines, putIn, numberOf}
+use Rattle.sampling.specs.Samples.{activeLines, putIn, sampleNumber}
 use Rattle.sampling.specs.Laps.{lapOf}
 use Rattle.sampling.specs.Kept.{InForce}
 use Rattle.sampling.specs.declared.booking.Tariffs.{Tariffs}
@@ -208,7 +208,7 @@ loop-again-3 c =
 left : (c : tie.Left-loop Inv-loop2 μ-loop2 Inv-loop3 μ-loop3 Inv-loop μ-loop)
     → let a = c .before .before .before .before .before .before .before .before .before .before .args in
     let l = c .loop-test in
-    record { taken = l .k; number = numberOf (l .answer); closes = l .closes; state = putIn (a .start) (l .clock) (l .count) (l .lines) (withAmounts (a .start .bills) (l .amounts)) }
+    record { taken = l .k; number = sampleNumber (l .answer); closes = l .closes; state = putIn (a .start) (l .clock) (l .count) (l .lines) (withAmounts (a .start .bills) (l .amounts)) }
     ≡ lapOf (a .config) (a .start) (a .bits .now)
 left c =
     let l = c .before .loop in

@@ -1,4 +1,4 @@
--- `settings::rules::rules` meets its contract. The loop's invariant: no entry before i breaks its rule.
+-- `settings::rules::tariff_rules` meets its contract. The loop's invariant: no entry before i breaks its rule.
 use mathlib.Core.Path.{sym, _∙_}
 use Prim.Native.Nat.{ℕ, _-_}
 use borrow.Author.Needs.{needs}
@@ -6,8 +6,8 @@ use borrow.Author.Tests.{not-true, not-false}
 use lib.ListN.{getD}
 use Rattle.laws.proofs.Broken.{Kept, kept-none, kept-more, kept-broken, kept-all}
 use Rattle.settings.specs.Rules.{ruleGood, noRule}
-use Rattle.settings.proofs.rules.rules.Statement.{statement}
-use Rattle.settings.proofs.rules.rules.Tie as tie
+use Rattle.settings.proofs.rules.tariff_rules.Statement.{statement}
+use Rattle.settings.proofs.rules.tariff_rules.Tie as tie
 
 abbrev Inv-loop : tie.InvT-loop
 Inv-loop xs i₀ i = Kept 16 (λ (j : ℕ). ruleGood (getD xs j noRule)) i
@@ -27,8 +27,8 @@ loop-again c = kept-more (c .before .before .before .before .loop .inv) (c .befo
 returns-2 : tie.Need-returns-2 Inv-loop μ-loop
 returns-2 c = kept-all (c .before .loop .inv) (c .loop-test .left)
 
-pub rules-spec : {M : Type 1} → statement M
-rules-spec =
+pub tariff-rules-spec : {M : Type 1} → statement M
+tariff-rules-spec =
     tie.close
     (tie.spec
     Inv-loop

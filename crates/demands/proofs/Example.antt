@@ -16,8 +16,8 @@ use Rattle.laws.specs.Tables.{table}
 use Rattle.laws.proofs.Tables.{table-cong}
 use Rattle.calendar.specs.Dates.{monthLength, yearLength}
 use Rattle.calendar.specs.Moments.{yearDay, momentOf}
-use Rattle.tariff.specs.Daily.{windowActive, dailyActive}
-use Rattle.tariff.specs.Weekly.{fitsAt, firstHoliday, columnOn, referenceAt, weeklyActive}
+use Rattle.tariff.specs.Daily.{dailyActive}
+use Rattle.tariff.specs.Weekly.{firstHoliday, columnOn, referenceAt, weeklyActive}
 use Rattle.tariff.specs.Seasons.{inSeason, seasonActive}
 use Rattle.tariff.specs.Rules.{applies, inForce, forceMap, forceOf}
 use Rattle.settings.specs.Rules.{noInput, fittedIn, sumGood}
@@ -45,7 +45,7 @@ unfolding checked firstBad sections first fittedIn sumGood any bitAt
 is-good = good-exactly twoMakers .0 refl
 
 happened : accountOf twoMakers start calls ≡ account
-unfolding first any total span maskOf bitAt table monthLength yearLength yearDay momentOf windowActive dailyActive fitsAt firstHoliday columnOn referenceAt weeklyActive inSeason seasonActive applies inForce forceMap forceOf namedPart sumOf multiple activeAt booksAt feeding amountOf overfull numberOfSample numberOfReading stepped counted withCall accountOf
+unfolding first any total span maskOf bitAt table monthLength yearLength yearDay momentOf dailyActive firstHoliday columnOn referenceAt weeklyActive inSeason seasonActive applies inForce forceMap forceOf namedPart sumOf multiple activeAt booksAt feeding amountOf overfull numberOfSample numberOfReading stepped counted withCall accountOf
 happened = refl
 
 -- a longest run of the example is a byte
@@ -86,7 +86,7 @@ closed-as : table 8 (λ j. closedOf twoMakers start j calls) ≡ table 8 (λ j. 
 closed-as = table-cong 8 _ _ (λ j l. closed-is twoMakers start calls j (in-use j l) ∙ ap (λ (a : Account). closedIn twoMakers j (a .journal)) happened)
 
 pub numbers : Numbers
-unfolding first any total span maskOf bitAt table monthLength yearLength yearDay momentOf windowActive dailyActive fitsAt firstHoliday columnOn referenceAt weeklyActive inSeason seasonActive applies inForce forceMap forceOf namedPart sumOf multiple activeAt booksAt feeding amountOf overfull numberOfSample numberOfReading stepped counted withCall accountOf productOf totalℤ valueOf stateIn awakeIn fleetIn
+unfolding first any total span maskOf bitAt table monthLength yearLength yearDay momentOf dailyActive firstHoliday columnOn referenceAt weeklyActive inSeason seasonActive applies inForce forceMap forceOf namedPart sumOf multiple activeAt booksAt feeding amountOf overfull numberOfSample numberOfReading stepped counted withCall accountOf productOf totalℤ valueOf stateIn awakeIn fleetIn
 numbers =
     record {
       accepted = record { good = is-good; bytes = runs-bytes };
@@ -107,7 +107,7 @@ numbers =
     }
 
 pub needed : Needed
-unfolding first any total span maskOf bitAt table monthLength yearLength yearDay momentOf windowActive dailyActive fitsAt firstHoliday columnOn referenceAt weeklyActive inSeason seasonActive applies inForce forceMap forceOf namedPart sumOf multiple activeAt booksAt feeding amountOf overfull numberOfSample numberOfReading stepped counted withCall accountOf productOf
+unfolding first any total span maskOf bitAt table monthLength yearLength yearDay momentOf dailyActive firstHoliday columnOn referenceAt weeklyActive inSeason seasonActive applies inForce forceMap forceOf namedPart sumOf multiple activeAt booksAt feeding amountOf overfull numberOfSample numberOfReading stepped counted withCall accountOf productOf
 needed =
     record {
       few = open-is twoMakers start byDay 2 (in-use 2 (omega arith));

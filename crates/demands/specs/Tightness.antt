@@ -10,13 +10,12 @@ use Rattle.calendar.proofs.day_exists.Reads as calendar-day-exists
 use Rattle.calendar.proofs.exists_in_some_year.Reads as calendar-exists-in-some-year
 use Rattle.calendar.proofs.moment_of.Reads as calendar-moment-of
 use Rattle.tariff.proofs.bit_at.Reads as tariff-bit-at
+use Rattle.tariff.proofs.with_bit.Reads as tariff-with-bit
 use Rattle.tariff.proofs.daily_active.Reads as tariff-daily-active
 use Rattle.tariff.proofs.daily_map.Reads as tariff-daily-map
 use Rattle.tariff.proofs.holiday_on.Reads as tariff-holiday-on
 use Rattle.tariff.proofs.weekly_active.Reads as tariff-weekly-active
 use Rattle.tariff.proofs.weekly_map.Reads as tariff-weekly-map
-use Rattle.tariff.proofs.season_active.Reads as tariff-season-active
-use Rattle.tariff.proofs.in_force.Reads as tariff-in-force
 use Rattle.tariff.proofs.force_map.Reads as tariff-force-map
 use Rattle.tariff.proofs.force_map_at.Reads as tariff-force-map-at
 use Rattle.settings.proofs.check_config.Reads as settings-check-config
@@ -98,13 +97,12 @@ pub record Tight : Type 1 where
   pub calendar-moment-of : Alone calendar-moment-of.Post calendar-moment-of.Asked
   -- crate tariff
   pub tariff-bit-at : Alone tariff-bit-at.Post tariff-bit-at.Asked
+  pub tariff-with-bit : Alone tariff-with-bit.Post tariff-with-bit.Asked
   pub tariff-daily-active : Alone tariff-daily-active.Post tariff-daily-active.Asked
   pub tariff-daily-map : Alone tariff-daily-map.Post tariff-daily-map.Asked
   pub tariff-holiday-on : Alone tariff-holiday-on.Post tariff-holiday-on.Asked
   pub tariff-weekly-active : Alone tariff-weekly-active.Post tariff-weekly-active.Asked
   pub tariff-weekly-map : Alone tariff-weekly-map.Post tariff-weekly-map.Asked
-  pub tariff-season-active : Alone tariff-season-active.Post tariff-season-active.Asked
-  pub tariff-in-force : Alone tariff-in-force.Post tariff-in-force.Asked
   pub tariff-force-map : Alone tariff-force-map.Post tariff-force-map.Asked
   pub tariff-force-map-at : Alone tariff-force-map-at.Post tariff-force-map-at.Asked
   -- crate settings

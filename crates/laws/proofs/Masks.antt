@@ -6,14 +6,15 @@ use Prim.Native.Nat.{ℕ, zero, suc, _+_, _-_, _*_, _/_, _%_, _^_, _<_, _≤_, m
 use native.Mathlib.Nat.{zero-add, add-comm, zero-mul, one-mul, pow-suc, mod-eq-of-lt, mod-lt, div-eq-of-lt, le-refl, le-antisymm, lt-of-lt-of-le, le-of-suc-le-suc, not-suc-le-zero, eq-or-lt-of-le, zero-min, div-one}
 use native.Mathlib.Numerals.{add-one, one-add}
 use native.Mathlib.Omega.{arith}
-use lib.Bits.{bitAnd, and-step, and-le-l}
+use lib.Bits.{bitAnd, bitOr, and-step, and-le-l, or-shifted}
 use lib.Dec.{eqb, ltb}
 use lib.Pow.{pow-pos, high, split, field, shr-lt, mod-mod-pow, shr-shr, pow-lt, pow-mono}
 use borrow.Author.Tests.{lt-ltb, ltb-true, ltb-false, eqb-true, eqb-false, eq-eqb, ne-eqb}
 use Rattle.laws.proofs.Tests.{by-test}
+use Rattle.laws.specs.If.{if_then_else_}
 use Rattle.laws.specs.Any.{any}
 use Rattle.laws.proofs.Any.{any-low, any-none}
-use Rattle.laws.specs.Masks.{bit, bitAt, maskOf, withBit}
+use Rattle.laws.specs.Masks.{bit, bitAt, maskOf, withBit, orBit}
 
 -- one more bit keeps a mask below the next power
 with-below : (b : Bool) (mask i : ℕ) → mask < 2 ^ i → withBit mask i b < 2 ^ suc i
@@ -41,6 +42,16 @@ mask-none p = refl
 pub mask-turn : (i : ℕ) (p : ℕ → Bool) {b : Bool} {mask r : ℕ} → mask ≡ maskOf i p → r ≡ withBit mask i b → b ≡ p i → r ≡ maskOf (i + 1) p
 unfolding maskOf
 mask-turn i p m e q = rw (add-one, e, m, q)
+
+-- bit i is past those of a mask below 2 ^ i, so nothing is carried
+or-with : (b : Bool) (mask i : ℕ) → mask < 2 ^ i → (if b then bitOr (2 ^ i) mask else mask) ≡ withBit mask i b
+or-with true mask i h = rw one-mul (rw one-mul at (or-shifted 1 i mask h))
+or-with false mask i h = rw (zero-mul, zero-add)
+
+-- a turn of a loop that adds bit i of 32 by the code's `with_bit`
+pub mask-more : (i : ℕ) (p : ℕ → Bool) {b : Bool} {mask r : ℕ} → i < 32 → mask ≡ maskOf i p → r ≡ orBit mask i b → b ≡ p i → r ≡ maskOf (i + 1) p
+unfolding orBit
+mask-more i p {b} {mask} l m e q = mask-turn i p m (e ∙ rw (lt-ltb i 32 l) (or-with b mask i (rw m (mask-below i p)))) q
 
 -- after the last turn
 pub mask-done : (n i : ℕ) (p : ℕ → Bool) (mask : ℕ) → mask ≡ maskOf i p → i ≤ n → n ≤ i → mask ≡ maskOf n p

@@ -1,7 +1,9 @@
 -- Masks: numbers whose bits say at which places a test holds.
-use mathlib.Core.Bool.{Bool, true, false}
+use mathlib.Core.Bool.{Bool, true, false, _&&_}
 use Prim.Native.Nat.{ℕ, zero, suc, _+_, _*_, _/_, _%_, _^_}
-use lib.Dec.{eqb}
+use lib.Bits.{bitOr}
+use lib.Dec.{eqb, ltb}
+use Rattle.laws.specs.If.{if_then_else_}
 
 -- 1 for true, 0 for false
 abbrev pub bit : Bool → ℕ
@@ -20,3 +22,7 @@ maskOf (suc n) p = withBit (maskOf n p) n (p n)
 -- bit i of a mask is on
 unfoldable pub bitAt : ℕ → ℕ → Bool
 bitAt mask i = eqb (mask / 2 ^ i % 2) 1
+
+-- a mask of 32 bits with bit i on too, if it is to be; no mask has a bit past 31
+unfoldable pub orBit : ℕ → ℕ → Bool → ℕ
+orBit mask i on = if ltb i 32 && on then bitOr (2 ^ i) mask else mask

@@ -2,11 +2,11 @@
 use recorder::Age;
 use recorder::Meter;
 use recorder::Recorder;
+use tariff::with_bit;
 ghost use mathlib.Core.Path.{_≡_};
 ghost use mathlib.Core.Bool.{cond};
-ghost use Prim.Native.Nat.{_+_, _<_, _≤_, _^_};
+ghost use Prim.Native.Nat.{_+_, _≤_, _^_};
 ghost use lib.IntN.{pos, natAbs, _+ℤ_};
-ghost use Rattle.laws.specs.Masks.{withBit};
 ghost use Rattle.recorder.specs.Meters.{ageNumber};
 ghost use Rattle.registers.specs.Fleet.{meterClass, fleetOf};
 
@@ -57,17 +57,6 @@ pub(crate) fn meter_class(limit: u16, meter: Meter, clock: u32) -> u8
     ))
 }
 
-// A mask of the meters before meter i, with that meter in it or not.
-fn with_meter(mask: u32, i: usize, on: bool) -> u32
-    requires { ⌜ (i < 32) × (mask < 2 ^ i) ⌝ }
-    ensures { λ r. ⌜ r ≡ withBit mask i on ⌝ }
-{
-    if on {
-        return (1u32 << i) + mask;
-    }
-    mask
-}
-
 // A value added where it is wanted. 32 values of 32 bits are far from the end of 64.
 fn plus_if(sum: i64, wanted: bool, value: i32) -> i64
     requires { ⌜ natAbs sum ≤ 2 ^ 62 ⌝ }
@@ -93,10 +82,10 @@ pub fn fleet_of(recorder: Recorder) -> Fleet
     for i in 0..32usize {
         let meter = meters[i];
         let class = meter_class(limits[i], meter, clock);
-        awake = with_meter(awake, i, class == AWAKE);
-        stale = with_meter(stale, i, class == STALE);
-        invalid = with_meter(invalid, i, class == INVALID);
-        never = with_meter(never, i, class == NEVER);
+        awake = with_bit(awake, i, class == AWAKE);
+        stale = with_bit(stale, i, class == STALE);
+        invalid = with_bit(invalid, i, class == INVALID);
+        never = with_bit(never, i, class == NEVER);
         sum = plus_if(sum, class == AWAKE, meter.value);
     }
     let fitted = awake | stale | invalid | never;

@@ -11,7 +11,7 @@ use Rattle.calendar.specs.Moments.{momentOf, atSecond}
 use Rattle.calendar.specs.declared.Moment.{Moment}
 use Rattle.calendar.proofs.Moments.{moment-is-found, found-is-moment, same-minute, dated-or-not}
 use Rattle.tariff.specs.Daily.{dailyActive}
-use Rattle.tariff.specs.Weekly.{fitsAt, columnOn, referenceAt, weeklyActive}
+use Rattle.tariff.specs.Weekly.{columnOn, referenceAt, weeklyActive}
 use Rattle.tariff.specs.Seasons.{seasonActive, inSeason}
 use Rattle.tariff.specs.Rules.{applies, inForce, forceMap, forceOf, forceMapAt}
 use Rattle.tariff.specs.Laws.{BitIsRule, BitIsDaily, BitIsWeekly, UnusedRuleNever, UnusedSeasonNever, NoRuleNever, SameMinuteSameMap, SecondMakesNoDifference, WeekdayAndMinute, NoHolidays}
@@ -67,5 +67,4 @@ unfolding weeklyActive columnOn
 weekday-and-minute p week m n hm hn w i = rw (hm, hn, w, i)
 
 pub no-holidays : NoHolidays
-unfolding fitsAt
 no-holidays p unused day month year = sym (holiday-none p day month year (λ j l. rw (unused j l)))

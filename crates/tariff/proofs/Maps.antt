@@ -9,22 +9,22 @@ use Rattle.laws.proofs.Tests.{by-test}
 use Rattle.laws.specs.Masks.{maskOf, bitAt}
 use Rattle.laws.proofs.Masks.{bit-at, mask-cong}
 use Rattle.calendar.specs.declared.Moment.{Moment}
-use Rattle.tariff.specs.Daily.{dailyActive, activeIn, dailyMap}
-use Rattle.tariff.specs.Weekly.{columnOn, referenceIn, referenceAt, minuteOf, weeklyActive, weeklyAt, weeklyMap}
-use Rattle.tariff.specs.Seasons.{dateOf, seasonActive, seasonOn, seasonMap}
-use Rattle.tariff.specs.Rules.{ruleAt, applies, inForce, forceAt, forceMap}
+use Rattle.tariff.specs.Daily.{dailyActive, dailyMap}
+use Rattle.tariff.specs.Weekly.{columnOn, referenceIn, referenceAt, minuteOf, weeklyActive, weeklyMap}
+use Rattle.tariff.specs.Seasons.{dateOf, seasonAt, inSeason, seasonActive, seasonMap}
+use Rattle.tariff.specs.Rules.{ruleAt, applies, inForce, forceMap}
 use Rattle.tariff.specs.declared.Date.{Date}
 use Rattle.tariff.specs.declared.Program.{Program}
 
 -- bit r of the daily map is daily rule r
 pub daily-bit : (p : Program) (minute rule : ℕ) → bitAt (dailyMap p minute) rule ≡ dailyActive p rule minute
 unfolding dailyMap dailyActive
-daily-bit p minute rule = bit-at 32 (activeIn p minute) rule ∙ and-self-left (ltb rule 32) _
+daily-bit p minute rule = bit-at 32 (λ r. dailyActive p r minute) rule ∙ and-self-left (ltb rule 32) _
 
 -- bit s of the season map is season s
 pub season-bit : (p : Program) (date : Date) (season : ℕ) → bitAt (seasonMap p date) season ≡ seasonActive p season date
-unfolding seasonMap seasonActive seasonOn
-season-bit p date season = bit-at 8 (seasonOn p date) season
+unfolding seasonMap seasonActive
+season-bit p date season = bit-at 8 (λ s. inSeason (seasonAt p s) date) season
 
 -- a weekly rule past 15 is inactive
 weekly-past : (p : Program) (week : ℕ) (m : Moment) → ltb week 16 ≡ false → weeklyActive p week m ≡ false
@@ -35,13 +35,13 @@ weekly-past p week m g = rw g
 pub weekly-bit : (p : Program) (m : Moment) (week : ℕ) → bitAt (weeklyMap p m) week ≡ weeklyActive p week m
 unfolding weeklyMap
 weekly-bit p m week =
-    bit-at 16 (weeklyAt p m) week
+    bit-at 16 (λ w. weeklyActive p w m) week
     ∙ by-test (ltb week 16) (λ l. rw l) (λ g. rw (g, weekly-past p week m g))
 
 -- bit i of the force map is tariff rule i
 pub force-bit : (p : Program) (m : Moment) (i : ℕ) → bitAt (forceMap p m) i ≡ inForce p i m
 unfolding forceMap inForce
-force-bit p m i = bit-at 16 (forceAt p m) i ∙ and-self-left (ltb i 16) _
+force-bit p m i = bit-at 16 (λ k. inForce p k m) i ∙ and-self-left (ltb i 16) _
 
 -- the test that the code puts into the weekly map: the bit of the daily rule that is used
 unfoldable pub usedAt : List ℕ → ℕ → ℕ → ℕ → Bool

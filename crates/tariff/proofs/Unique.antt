@@ -4,16 +4,15 @@ use Rattle.laws.specs.Unique.{OneResult}
 use Rattle.tariff.specs.Weekly.{placeOf}
 use Rattle.tariff.specs.declared.Finding.{Finding}
 use Rattle.tariff.specs.declared.Finding.the-variants.{At, Nothing}
-use Rattle.tariff.proofs.bit_at.Reads as bit-at-reads
-use Rattle.tariff.proofs.daily_active.Reads as daily-active-reads
-use Rattle.tariff.proofs.daily_map.Reads as daily-map-reads
-use Rattle.tariff.proofs.holiday_on.Reads as holiday-on-reads
-use Rattle.tariff.proofs.weekly_active.Reads as weekly-active-reads
-use Rattle.tariff.proofs.weekly_map.Reads as weekly-map-reads
-use Rattle.tariff.proofs.season_active.Reads as season-active-reads
-use Rattle.tariff.proofs.in_force.Reads as in-force-reads
-use Rattle.tariff.proofs.force_map.Reads as force-map-reads
-use Rattle.tariff.proofs.force_map_at.Reads as force-map-at-reads
+use Rattle.tariff.proofs.masks.bit_at.Reads as bit-at-reads
+use Rattle.tariff.proofs.masks.with_bit.Reads as with-bit-reads
+use Rattle.tariff.proofs.daily.daily_active.Reads as daily-active-reads
+use Rattle.tariff.proofs.daily.daily_map.Reads as daily-map-reads
+use Rattle.tariff.proofs.weekly.holiday_on.Reads as holiday-on-reads
+use Rattle.tariff.proofs.weekly.weekly_active.Reads as weekly-active-reads
+use Rattle.tariff.proofs.weekly.weekly_map.Reads as weekly-map-reads
+use Rattle.tariff.proofs.rules.force_map.Reads as force-map-reads
+use Rattle.tariff.proofs.rules.force_map_at.Reads as force-map-at-reads
 
 -- the place tells all findings apart
 pub place-apart : (x y : Finding) → placeOf x ≡ placeOf y → x ≡ y
@@ -24,6 +23,9 @@ place-apart Nothing Nothing e = cc
 
 pub bit-at : OneResult bit-at-reads.Post
 bit-at κs a x y e f p q = p ∙ sym q
+
+pub with-bit : OneResult with-bit-reads.Post
+with-bit κs a x y e f p q = p ∙ sym q
 
 pub daily-active : OneResult daily-active-reads.Post
 daily-active κs a x y e f p q = p ∙ sym q
@@ -39,12 +41,6 @@ weekly-active κs a x y e f p q = p ∙ sym q
 
 pub weekly-map : OneResult weekly-map-reads.Post
 weekly-map κs a x y e f p q = p ∙ sym q
-
-pub season-active : OneResult season-active-reads.Post
-season-active κs a x y e f p q = p ∙ sym q
-
-pub in-force : OneResult in-force-reads.Post
-in-force κs a x y e f p q = p ∙ sym q
 
 pub force-map : OneResult force-map-reads.Post
 force-map κs a x y e f p q = p ∙ sym q

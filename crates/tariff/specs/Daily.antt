@@ -12,18 +12,14 @@ use Rattle.tariff.specs.declared.Program.{Program}
 abbrev pub inWindow : Window → ℕ → Bool
 inWindow w minute = leb (w .first) minute && ltb minute (w .end)
 
--- window k of a daily rule is active
-unfoldable pub windowActive : Program → ℕ → ℕ → ℕ → Bool
-windowActive p rule minute k = inWindow (getD (p .windows) (rule * 4 + k) (record { first = 0; end = 0 })) minute
+-- window k of a daily rule as an entry of the program
+abbrev pub windowAt : Program → ℕ → ℕ → Window
+windowAt p rule k = getD (p .windows) (rule * 4 + k) (record { first = 0; end = 0 })
 
 -- a daily rule is active in the minutes of its four windows; a number past 31, as 255, names no rule
 unfoldable pub dailyActive : Program → ℕ → ℕ → Bool
-dailyActive p rule minute = ltb rule 32 && any 4 (windowActive p rule minute)
-
--- the daily rule as a test of its number
-abbrev pub activeIn : Program → ℕ → ℕ → Bool
-activeIn p minute rule = dailyActive p rule minute
+dailyActive p rule minute = ltb rule 32 && any 4 (λ k. inWindow (windowAt p rule k) minute)
 
 -- all 32: bit r is daily rule r
 unfoldable pub dailyMap : Program → ℕ → ℕ
-dailyMap p minute = maskOf 32 (activeIn p minute)
+dailyMap p minute = maskOf 32 (λ rule. dailyActive p rule minute)

@@ -24,13 +24,9 @@ applies p r m = (eqb (r .season) 255 || seasonActive p (r .season) (dateOf m)) &
 unfoldable pub inForce : Program → ℕ → Moment → Bool
 inForce p i m = ltb i 16 && applies p (ruleAt p i) m
 
--- the tariff rule as a test of its number
-abbrev pub forceAt : Program → Moment → ℕ → Bool
-forceAt p m i = inForce p i m
-
 -- all 16: bit i is tariff rule i
 unfoldable pub forceMap : Program → Moment → ℕ
-forceMap p m = maskOf 16 (forceAt p m)
+forceMap p m = maskOf 16 (λ i. inForce p i m)
 
 -- the same of an answer of the calendar: none is in force without a date
 unfoldable pub forceOf : Program → Answer Moment → ℕ

@@ -37,10 +37,6 @@ seasonAt p k = getD (p .seasons) k (record { first = record { day = 0; month = 0
 unfoldable pub seasonActive : Program → ℕ → Date → Bool
 seasonActive p season date = ltb season 8 && inSeason (seasonAt p season) date
 
--- the season as a test of its number
-unfoldable pub seasonOn : Program → Date → ℕ → Bool
-seasonOn p date season = inSeason (seasonAt p season) date
-
 -- all 8: bit s is season s
 unfoldable pub seasonMap : Program → Date → ℕ
-seasonMap p date = maskOf 8 (seasonOn p date)
+seasonMap p date = maskOf 8 (λ season. inSeason (seasonAt p season) date)

@@ -29,14 +29,10 @@ holidayFits h day month year =
 abbrev pub holidayAt : Program → ℕ → Holiday
 holidayAt p k = getD (p .holidays) k (record { day = 0; month = 0; year = 0 })
 
--- holiday k fits a day
-unfoldable pub fitsAt : Program → ℕ → ℕ → ℕ → ℕ → Bool
-fitsAt p day month year k = holidayFits (holidayAt p k) day month year
-
 -- the first of the 32 holidays that fits a day
 unfoldable pub firstHoliday : Program → ℕ → ℕ → ℕ → Option ℕ
 firstHoliday p day month year =
-    let k = first 32 (fitsAt p day month year) in
+    let k = first 32 (λ i. holidayFits (holidayAt p i) day month year) in
     if ltb k 32 then some k else none
 
 -- what the code's finding says
@@ -73,10 +69,6 @@ minuteOf m = m .hour * 60 + m .minute
 unfoldable pub weeklyActive : Program → ℕ → Moment → Bool
 weeklyActive p week m = dailyActive p (referenceAt p week (columnOn p m)) (minuteOf m)
 
--- the weekly rule as a test of its number
-abbrev pub weeklyAt : Program → Moment → ℕ → Bool
-weeklyAt p m week = weeklyActive p week m
-
 -- all 16: bit w is weekly rule w
 unfoldable pub weeklyMap : Program → Moment → ℕ
-weeklyMap p m = maskOf 16 (weeklyAt p m)
+weeklyMap p m = maskOf 16 (λ week. weeklyActive p week m)

@@ -20,7 +20,7 @@ use Rattle.laws.proofs.Keys.{in-range}
 use Rattle.laws.specs.Tables.{table}
 use Rattle.laws.proofs.Tables.{table-at}
 use Rattle.laws.specs.Masks.{maskOf}
-use Rattle.laws.proofs.Masks.{mask-cong, mask-none, mask-below, mask-turn, mask-done}
+use Rattle.laws.proofs.Masks.{mask-cong, mask-none, mask-more, mask-done}
 use Rattle.laws.proofs.Counts.{ones-mask, ones-mask-le, mask-or}
 use Rattle.laws.specs.SignedTotal.{totalℤ}
 use Rattle.laws.proofs.SignedTotal.{abs-fits, totalℤ-none, totalℤ-turn, totalℤ-done}
@@ -55,18 +55,6 @@ abbrev μ-loop : tie.MeasureT-loop
 loop-holds : tie.Need-loop-holds Inv-loop μ-loop
 loop-holds c = (search needs, mask-none _, mask-none _, mask-none _, mask-none _, totalℤ-none _, search needs)
 
-with-meter-requires : tie.Need-with-meter-requires Inv-loop μ-loop
-with-meter-requires c κs = let l = c .before .before .before .loop in (search needs, rw (l .inv .1) (mask-below (l .i) _))
-
-with-meter-requires-2 : tie.Need-with-meter-requires-2 Inv-loop μ-loop
-with-meter-requires-2 c κs = let l = c .before .before .before .before .loop in (search needs, rw (l .inv .2) (mask-below (l .i) _))
-
-with-meter-requires-3 : tie.Need-with-meter-requires-3 Inv-loop μ-loop
-with-meter-requires-3 c κs = let l = c .before .before .before .before .before .loop in (search needs, rw (l .inv .3) (mask-below (l .i) _))
-
-with-meter-requires-4 : tie.Need-with-meter-requires-4 Inv-loop μ-loop
-with-meter-requires-4 c κs = let l = c .before .before .before .before .before .before .loop in (search needs, rw (l .inv .4) (mask-below (l .i) _))
-
 plus-if-requires : tie.Need-plus-if-requires Inv-loop μ-loop
 plus-if-requires c κs = omega arith
 
@@ -84,7 +72,7 @@ loop-again c =
     let back : toZ w64 (ofZ w64 (r .result)) ≡ r .result = toZ-ofZ {w = w64} (abs-fits (r .result) (omega arith)) in
     let v = meterAt meters (l .i) .value in
     let value : toZ w32 (ofZ w32 v) ≡ v = toZ-ofZ {w = w32} {z = v} (record { sfits = c .before .struct-told .given .1 .1 .0 .1 }) in
-    (omega arith, mask-turn _ _ (l .inv .1) (c .before .before .before .before .before .with-meter .ensures) (ap (λ k. eqb k 0) there), mask-turn _ _ (l .inv .2) (c .before .before .before .before .with-meter2 .ensures) (ap (λ k. eqb k 1) there), mask-turn _ _ (l .inv .3) (c .before .before .before .with-meter3 .ensures) (ap (λ k. eqb k 2) there), mask-turn _ _ (l .inv .4) (c .before .before .with-meter4 .ensures) (ap (λ k. eqb k 3) there), rw back (totalℤ-turn _ _ (l .inv .5) (r .ensures .0 ∙ rw (value, there))), rw back near)
+    (omega arith, mask-more _ _ (omega arith) (l .inv .1) (c .before .before .before .before .before .with-bit .ensures) (ap (λ k. eqb k 0) there), mask-more _ _ (omega arith) (l .inv .2) (c .before .before .before .before .with-bit2 .ensures) (ap (λ k. eqb k 1) there), mask-more _ _ (omega arith) (l .inv .3) (c .before .before .before .with-bit3 .ensures) (ap (λ k. eqb k 2) there), mask-more _ _ (omega arith) (l .inv .4) (c .before .before .with-bit4 .ensures) (ap (λ k. eqb k 3) there), rw back (totalℤ-turn _ _ (l .inv .5) (r .ensures .0 ∙ rw (value, there))), rw back near)
 
 -- the four classes of a fitted meter
 any-of : (x : ℕ) → (((eqb x 0 || eqb x 1) || eqb x 2) || eqb x 3) ≡ ltb x 4
@@ -138,10 +126,10 @@ fleet-of-spec =
     (λ c. search needs)
     (λ c. search needs)
     (λ c κs. search needs)
-    with-meter-requires
-    with-meter-requires-2
-    with-meter-requires-3
-    with-meter-requires-4
+    (λ c κs. search needs)
+    (λ c κs. search needs)
+    (λ c κs. search needs)
+    (λ c κs. search needs)
     plus-if-requires
     (λ c. search needs)
     (λ c. search needs)

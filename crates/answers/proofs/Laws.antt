@@ -1,5 +1,5 @@
 -- Laws of texts (specs/Texts.antt) and of numbers in letters (specs/Numbers.antt): turns of the loops, and digits that are enough.
-use mathlib.Core.Path.{_≡_, refl, sym, ap, _∙_}
+use mathlib.Core.Path.{_≡_, refl}
 use mathlib.Core.Bool.{true, false, true≢false}
 use mathlib.Core.List.{List, [], _∷_, _++_, append-nil}
 use Prim.Native.Nat.{ℕ, zero, suc, _+_, _-_, _*_, _/_, _^_, _<_, _≤_}
@@ -16,7 +16,7 @@ use mir.Syntax.{w64}
 use mir.Val.{ofZ}
 use Rattle.laws.proofs.Tests.{by-test}
 use Rattle.laws.specs.Answers.{given}
-use Rattle.lines.specs.Words.{letters}
+use Rattle.laws.specs.Letters.{letters}
 use Rattle.answers.specs.declared.Text.{Text}
 use Rattle.answers.specs.Texts.{withByte, withBytes}
 use Rattle.answers.specs.Numbers.{digit, decimalIn, decimalOf, signedOf, hexDigit, hexOf}

@@ -8,7 +8,7 @@ use calendar::Moment;
 ghost use mathlib.Core.Path.{_≡_};
 ghost use mathlib.Core.List.{_++_};
 ghost use Rattle.laws.specs.Answers.{given};
-ghost use Rattle.lines.specs.Words.{letters};
+ghost use Rattle.laws.specs.Letters.{letters};
 ghost use Rattle.answers.specs.Texts.{withBytes, asText};
 ghost use Rattle.answers.specs.Answers.{weekdayName, dayText, timeText, dateLine};
 

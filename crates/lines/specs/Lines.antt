@@ -1,17 +1,17 @@
 -- The table of lines. A line is taken without its end.
-use mathlib.Core.Bool.{Bool, true, false, not, _||_}
+use mathlib.Core.Bool.{Bool, true, not, _||_}
 use mathlib.Core.List.{List, [], _∷_}
 use Prim.Native.Nat.{ℕ}
 use lib.Dec.{ltb, eqb}
 use lib.ListN.{length, getD}
 use Rattle.laws.specs.If.{if_then_else_}
-use Rattle.lines.specs.Words.{letters, withoutReturn, words, word, same}
+use Rattle.laws.specs.Letters.{letters}
+use Rattle.lines.specs.Words.{withoutReturn, words, word, same}
 use Rattle.lines.specs.Numbers.{wholeOf, signedOf}
 use Rattle.lines.specs.declared.numbers.Number.{Number}
 use Rattle.lines.specs.declared.numbers.Signed.{Signed}
 use Rattle.lines.specs.declared.Line.{Line}
 use Rattle.lines.specs.declared.Line.the-variants.{Nothing, Start, Sample, Set, Reading, Reset, Register, Image, Date, Fleet, Wrong}
-use Rattle.lines.specs.declared.Mistake.{Mistake}
 use Rattle.lines.specs.declared.Mistake.the-variants as mistake
 use Rattle.lines.specs.declared.Command.{Command}
 use Rattle.lines.specs.declared.Command.the-variants as command
@@ -101,19 +101,28 @@ askedOf command.Image text = Image
 askedOf command.Date text = timeOf Date (number32 1 text)
 askedOf command.Fleet text = Fleet
 
+-- the commands by their words
+unfoldable pub commands : List (List ℕ × Command)
+commands =
+    (letters "sample", command.Sample)
+    ∷ (letters "start", command.Start)
+    ∷ (letters "set", command.Set)
+    ∷ (letters "reading", command.Reading)
+    ∷ (letters "reset", command.Reset)
+    ∷ (letters "register", command.Register)
+    ∷ (letters "image", command.Image)
+    ∷ (letters "date", command.Date)
+    ∷ (letters "fleet", command.Fleet)
+    ∷ []
+
+-- the command that a table has for a word
+unfoldable pub commandIn : List (List ℕ × Command) → List ℕ → First
+commandIn [] w = first.Unknown
+commandIn (entry ∷ rest) w = if same w (entry .0) then first.Is (entry .1) else commandIn rest w
+
 -- the command of a first word
-unfoldable pub commandOf : List ℕ → First
-commandOf w =
-    if same w (letters "sample") then first.Is command.Sample
-    else if same w (letters "start") then first.Is command.Start
-    else if same w (letters "set") then first.Is command.Set
-    else if same w (letters "reading") then first.Is command.Reading
-    else if same w (letters "reset") then first.Is command.Reset
-    else if same w (letters "register") then first.Is command.Register
-    else if same w (letters "image") then first.Is command.Image
-    else if same w (letters "date") then first.Is command.Date
-    else if same w (letters "fleet") then first.Is command.Fleet
-    else first.Unknown
+abbrev pub commandOf : List ℕ → First
+commandOf w = commandIn commands w
 
 -- what a line asks by its first word: a command with as many words as it has
 unfoldable pub asked : First → List ℕ → Line

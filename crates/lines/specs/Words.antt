@@ -2,17 +2,9 @@
 use mathlib.Core.Bool.{Bool, true, false, _&&_}
 use mathlib.Core.List.{List, [], _∷_}
 use Prim.Native.Nat.{ℕ, suc, _-_}
-use Prim.Native.Char.{code}
-use Prim.Native.String.{String}
-use Prim.Native.String as string
 use lib.Dec.{eqb}
 use lib.ListN.{length, getD, take}
 use Rattle.laws.specs.If.{if_then_else_}
-
--- the numbers of the letters of a quoted text
-unfoldable pub letters : String → List ℕ
-letters string.[] = []
-letters (string._∷_ c rest) = code c ∷ letters rest
 
 -- a line without the carriage return (13) that may stand at its end
 unfoldable pub withoutReturn : List ℕ → List ℕ

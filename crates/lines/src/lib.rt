@@ -68,6 +68,19 @@ pub enum Parameter {
     Room,
 }
 
+// The commands, in the order of their words in `command_of`.
+const COMMANDS: [Command; 9] = [
+    Command::Sample,
+    Command::Start,
+    Command::Set,
+    Command::Reading,
+    Command::Reset,
+    Command::Register,
+    Command::Image,
+    Command::Date,
+    Command::Fleet,
+];
+
 // What the first word of a line says.
 enum First {
     Is(Command),
@@ -84,32 +97,12 @@ enum Timed {
 fn command_of(first: &[u8]) -> First
     ensures { λ r. ⌜ r ≡ commandOf (now (first .entry)) ⌝ }
 {
-    if words::is(first, b"sample") {
-        return First::Is(Command::Sample);
-    }
-    if words::is(first, b"start") {
-        return First::Is(Command::Start);
-    }
-    if words::is(first, b"set") {
-        return First::Is(Command::Set);
-    }
-    if words::is(first, b"reading") {
-        return First::Is(Command::Reading);
-    }
-    if words::is(first, b"reset") {
-        return First::Is(Command::Reset);
-    }
-    if words::is(first, b"register") {
-        return First::Is(Command::Register);
-    }
-    if words::is(first, b"image") {
-        return First::Is(Command::Image);
-    }
-    if words::is(first, b"date") {
-        return First::Is(Command::Date);
-    }
-    if words::is(first, b"fleet") {
-        return First::Is(Command::Fleet);
+    let names = b"sample start set reading reset register image date fleet";
+    for k in 0..COMMANDS.len() {
+        if words::is(first, words::word(names, k)) {
+            let command = COMMANDS[k];
+            return First::Is(command);
+        }
     }
     First::Unknown
 }

@@ -2,7 +2,7 @@
 use Rattle.answers.proofs.Laws.{split}
 use Rattle.answers.specs.Answers.{errorLine}
 use Rattle.answers.specs.Texts.{withBytes}
-use Rattle.lines.specs.Words.{letters}
+use Rattle.laws.specs.Letters.{letters}
 use borrow.Author.Needs.{needs}
 use Rattle.answers.proofs.error_line.Statement.{statement}
 use Rattle.answers.proofs.error_line.Tie as tie

@@ -1,7 +1,7 @@
 -- `answers::fleet_line` meets its contract: one part after the other.
 use Rattle.answers.proofs.Laws.{split}
 use Rattle.answers.specs.Answers.{fleetLine}
-use Rattle.lines.specs.Words.{letters}
+use Rattle.laws.specs.Letters.{letters}
 use Rattle.answers.specs.Texts.{withBytes}
 use borrow.Author.Needs.{needs}
 use mir.Facts.{toZ-ofZ}

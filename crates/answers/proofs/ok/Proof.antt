@@ -1,5 +1,5 @@
 -- `answers::ok` meets its contract.
-use Rattle.lines.specs.Words.{letters}
+use Rattle.laws.specs.Letters.{letters}
 use Rattle.answers.specs.Texts.{withBytes}
 use borrow.Author.Needs.{needs}
 use Rattle.answers.proofs.ok.Statement.{statement}

@@ -1,6 +1,6 @@
 -- `answers::refused_after` meets its contract: letters, the number, letters, the count, the end.
 use Rattle.answers.proofs.Laws.{split}
-use Rattle.lines.specs.Words.{letters}
+use Rattle.laws.specs.Letters.{letters}
 use Rattle.answers.specs.Texts.{withBytes}
 use borrow.Author.Needs.{needs}
 use Rattle.answers.proofs.refused_after.Statement.{statement}

@@ -1,6 +1,6 @@
 -- `answers::with_classes` meets its contract: four words, each with its count.
 use Rattle.answers.proofs.Laws.{split}
-use Rattle.lines.specs.Words.{letters}
+use Rattle.laws.specs.Letters.{letters}
 use Rattle.answers.specs.Texts.{withBytes}
 use borrow.Author.Needs.{needs}
 use Rattle.answers.proofs.with_classes.Statement.{statement}

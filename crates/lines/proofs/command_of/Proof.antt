@@ -1,79 +1,55 @@
--- `lines::command_of` meets its contract: by what the comparisons ensure, from the first on.
+-- `lines::command_of` meets its contract. The loop's invariant: what the table has for the word, it has from entry k on. Word k of the code's text is that of
+-- entry k, and so is command k of its array: both computed from the table.
+use mathlib.Core.Path.{_≡_, refl, sym, ap, _∙_}
+use Prim.Native.Nat.{_-_}
 use borrow.Author.Needs.{needs}
-use Rattle.lines.specs.Words.{letters}
-use Rattle.lines.specs.Lines.{commandOf}
+use lib.ListN.{drop, List·getD-map}
+use Rattle.laws.specs.Letters.{letters}
+use Rattle.lines.specs.Words.{inFront, words, same}
+use Rattle.lines.specs.Lines.{commands, commandIn, commandOf}
+use Rattle.lines.specs.declared.First.the-variants.{Is}
+use Rattle.lines.proofs.Commands.{past, other-word, this-word, no-word}
 use Rattle.lines.proofs.command_of.Statement.{statement}
 use Rattle.lines.proofs.command_of.Tie as tie
 
-returns : tie.Need-returns
-unfolding commandOf letters
-returns c = rw (← c .before .is .ensures, c .if1 .taken)
+abbrev Inv-loop : tie.InvT-loop
+Inv-loop first names k₀ k = commandOf first ≡ commandIn (drop k commands) first
 
-returns-2 : tie.Need-returns-2
-unfolding commandOf letters
-returns-2 c = rw (← c .before .before .before .before .is .ensures, c .before .before .before .if1 .left, ← c .before .is2 .ensures, c .if2 .taken)
+abbrev μ-loop : tie.MeasureT-loop
+μ-loop first names k₀ k = 9 - k
 
-returns-3 : tie.Need-returns-3
-unfolding commandOf letters
-returns-3 c = rw (← c .before .before .before .before .before .before .before .is .ensures, c .before .before .before .before .before .before .if1 .left, ← c .before .before .before .before .is2 .ensures, c .before .before .before .if2 .left, ← c .before .is3 .ensures, c .if3 .taken)
+loop-again : tie.Need-loop-again Inv-loop μ-loop
+unfolding letters words inFront commands
+loop-again c =
+    let l = c .before .before .before .before .before .loop in
+    let entry = ap (same _) (c .before .before .word .ensures ∙ List·getD-map (λ e. e .0) commands (l .k) past) in
+    l .inv ∙ other-word commands _ (l .k) (c .before .before .before .before .loop-test .taken) (sym entry ∙ sym (c .before .is .ensures) ∙ c .if1 .left)
 
-returns-4 : tie.Need-returns-4
-unfolding commandOf letters
-returns-4 c = rw (← c .before .before .before .before .before .before .before .before .before .before .is .ensures, c .before .before .before .before .before .before .before .before .before .if1 .left, ← c .before .before .before .before .before .before .before .is2 .ensures, c .before .before .before .before .before .before .if2 .left, ← c .before .before .before .before .is3 .ensures, c .before .before .before .if3 .left, ← c .before .is4 .ensures, c .if4 .taken)
+returns : tie.Need-returns Inv-loop μ-loop
+unfolding letters words inFront commands
+returns c =
+    let i = c .before in
+    let l = i .before .before .before .before .before .loop in
+    let entry = ap (same _) (i .before .before .word .ensures ∙ List·getD-map (λ e. e .0) commands (l .k) past) in
+    ap Is (List·getD-map (λ e. e .1) commands (l .k) past)
+    ∙ sym (l .inv ∙ this-word commands _ (l .k) (i .before .before .before .before .loop-test .taken) (sym entry ∙ sym (i .before .is .ensures) ∙ i .if1 .taken))
 
-returns-5 : tie.Need-returns-5
-unfolding commandOf letters
-returns-5 c = rw (← c .before .before .before .before .before .before .before .before .before .before .before .before .before .is .ensures, c .before .before .before .before .before .before .before .before .before .before .before .before .if1 .left, ← c .before .before .before .before .before .before .before .before .before .before .is2 .ensures, c .before .before .before .before .before .before .before .before .before .if2 .left, ← c .before .before .before .before .before .before .before .is3 .ensures, c .before .before .before .before .before .before .if3 .left, ← c .before .before .before .before .is4 .ensures, c .before .before .before .if4 .left, ← c .before .is5 .ensures, c .if5 .taken)
-
-returns-6 : tie.Need-returns-6
-unfolding commandOf letters
-returns-6 c = rw (← c .before .before .before .before .before .before .before .before .before .before .before .before .before .before .before .before .is .ensures, c .before .before .before .before .before .before .before .before .before .before .before .before .before .before .before .if1 .left, ← c .before .before .before .before .before .before .before .before .before .before .before .before .before .is2 .ensures, c .before .before .before .before .before .before .before .before .before .before .before .before .if2 .left, ← c .before .before .before .before .before .before .before .before .before .before .is3 .ensures, c .before .before .before .before .before .before .before .before .before .if3 .left, ← c .before .before .before .before .before .before .before .is4 .ensures, c .before .before .before .before .before .before .if4 .left, ← c .before .before .before .before .is5 .ensures, c .before .before .before .if5 .left, ← c .before .is6 .ensures, c .if6 .taken)
-
-returns-7 : tie.Need-returns-7
-unfolding commandOf letters
-returns-7 c = rw (← c .before .before .before .before .before .before .before .before .before .before .before .before .before .before .before .before .before .before .before .is .ensures, c .before .before .before .before .before .before .before .before .before .before .before .before .before .before .before .before .before .before .if1 .left, ← c .before .before .before .before .before .before .before .before .before .before .before .before .before .before .before .before .is2 .ensures, c .before .before .before .before .before .before .before .before .before .before .before .before .before .before .before .if2 .left, ← c .before .before .before .before .before .before .before .before .before .before .before .before .before .is3 .ensures, c .before .before .before .before .before .before .before .before .before .before .before .before .if3 .left, ← c .before .before .before .before .before .before .before .before .before .before .is4 .ensures, c .before .before .before .before .before .before .before .before .before .if4 .left, ← c .before .before .before .before .before .before .before .is5 .ensures, c .before .before .before .before .before .before .if5 .left, ← c .before .before .before .before .is6 .ensures, c .before .before .before .if6 .left, ← c .before .is7 .ensures, c .if7 .taken)
-
-returns-8 : tie.Need-returns-8
-unfolding commandOf letters
-returns-8 c = rw (← c .before .before .before .before .before .before .before .before .before .before .before .before .before .before .before .before .before .before .before .before .before .before .is .ensures, c .before .before .before .before .before .before .before .before .before .before .before .before .before .before .before .before .before .before .before .before .before .if1 .left, ← c .before .before .before .before .before .before .before .before .before .before .before .before .before .before .before .before .before .before .before .is2 .ensures, c .before .before .before .before .before .before .before .before .before .before .before .before .before .before .before .before .before .before .if2 .left, ← c .before .before .before .before .before .before .before .before .before .before .before .before .before .before .before .before .is3 .ensures, c .before .before .before .before .before .before .before .before .before .before .before .before .before .before .before .if3 .left, ← c .before .before .before .before .before .before .before .before .before .before .before .before .before .is4 .ensures, c .before .before .before .before .before .before .before .before .before .before .before .before .if4 .left, ← c .before .before .before .before .before .before .before .before .before .before .is5 .ensures, c .before .before .before .before .before .before .before .before .before .if5 .left, ← c .before .before .before .before .before .before .before .is6 .ensures, c .before .before .before .before .before .before .if6 .left, ← c .before .before .before .before .is7 .ensures, c .before .before .before .if7 .left, ← c .before .is8 .ensures, c .if8 .taken)
-
-returns-9 : tie.Need-returns-9
-unfolding commandOf letters
-returns-9 c = rw (← c .before .before .before .before .before .before .before .before .before .before .before .before .before .before .before .before .before .before .before .before .before .before .before .before .before .is .ensures, c .before .before .before .before .before .before .before .before .before .before .before .before .before .before .before .before .before .before .before .before .before .before .before .before .if1 .left, ← c .before .before .before .before .before .before .before .before .before .before .before .before .before .before .before .before .before .before .before .before .before .before .is2 .ensures, c .before .before .before .before .before .before .before .before .before .before .before .before .before .before .before .before .before .before .before .before .before .if2 .left, ← c .before .before .before .before .before .before .before .before .before .before .before .before .before .before .before .before .before .before .before .is3 .ensures, c .before .before .before .before .before .before .before .before .before .before .before .before .before .before .before .before .before .before .if3 .left, ← c .before .before .before .before .before .before .before .before .before .before .before .before .before .before .before .before .is4 .ensures, c .before .before .before .before .before .before .before .before .before .before .before .before .before .before .before .if4 .left, ← c .before .before .before .before .before .before .before .before .before .before .before .before .before .is5 .ensures, c .before .before .before .before .before .before .before .before .before .before .before .before .if5 .left, ← c .before .before .before .before .before .before .before .before .before .before .is6 .ensures, c .before .before .before .before .before .before .before .before .before .if6 .left, ← c .before .before .before .before .before .before .before .is7 .ensures, c .before .before .before .before .before .before .if7 .left, ← c .before .before .before .before .is8 .ensures, c .before .before .before .if8 .left, ← c .before .is9 .ensures, c .if9 .taken)
-
-returns-10 : tie.Need-returns-10
-unfolding commandOf letters
-returns-10 c = rw (← c .before .before .before .before .before .before .before .before .before .before .before .before .before .before .before .before .before .before .before .before .before .before .before .before .before .is .ensures, c .before .before .before .before .before .before .before .before .before .before .before .before .before .before .before .before .before .before .before .before .before .before .before .before .if1 .left, ← c .before .before .before .before .before .before .before .before .before .before .before .before .before .before .before .before .before .before .before .before .before .before .is2 .ensures, c .before .before .before .before .before .before .before .before .before .before .before .before .before .before .before .before .before .before .before .before .before .if2 .left, ← c .before .before .before .before .before .before .before .before .before .before .before .before .before .before .before .before .before .before .before .is3 .ensures, c .before .before .before .before .before .before .before .before .before .before .before .before .before .before .before .before .before .before .if3 .left, ← c .before .before .before .before .before .before .before .before .before .before .before .before .before .before .before .before .is4 .ensures, c .before .before .before .before .before .before .before .before .before .before .before .before .before .before .before .if4 .left, ← c .before .before .before .before .before .before .before .before .before .before .before .before .before .is5 .ensures, c .before .before .before .before .before .before .before .before .before .before .before .before .if5 .left, ← c .before .before .before .before .before .before .before .before .before .before .is6 .ensures, c .before .before .before .before .before .before .before .before .before .if6 .left, ← c .before .before .before .before .before .before .before .is7 .ensures, c .before .before .before .before .before .before .if7 .left, ← c .before .before .before .before .is8 .ensures, c .before .before .before .if8 .left, ← c .before .is9 .ensures, c .if9 .left)
+returns-2 : tie.Need-returns-2 Inv-loop μ-loop
+unfolding commands
+returns-2 c = sym (c .before .loop .inv ∙ no-word commands _ _ (c .loop-test .left))
 
 pub command-of-spec : {M : Type 1} → statement M
 command-of-spec =
     tie.close
     (tie.spec
-    (λ c. search needs)
+    Inv-loop
+    μ-loop
+    (λ c. refl)
     (λ c κs. search needs)
+    (λ c κs. search needs)
+    (λ c. search needs)
     returns
     (λ c. search needs)
-    (λ c κs. search needs)
-    returns-2
     (λ c. search needs)
-    (λ c κs. search needs)
-    returns-3
-    (λ c. search needs)
-    (λ c κs. search needs)
-    returns-4
-    (λ c. search needs)
-    (λ c κs. search needs)
-    returns-5
-    (λ c. search needs)
-    (λ c κs. search needs)
-    returns-6
-    (λ c. search needs)
-    (λ c κs. search needs)
-    returns-7
-    (λ c. search needs)
-    (λ c κs. search needs)
-    returns-8
-    (λ c. search needs)
-    (λ c κs. search needs)
-    returns-9
-    returns-10)
+    loop-again
+    returns-2)

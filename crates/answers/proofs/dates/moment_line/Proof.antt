@@ -1,7 +1,7 @@
 -- `answers::dates::moment_line` meets its contract: one part after the other.
 use Rattle.answers.proofs.Laws.{split}
 use Rattle.answers.specs.Answers.{dateLine}
-use Rattle.lines.specs.Words.{letters}
+use Rattle.laws.specs.Letters.{letters}
 use Rattle.answers.specs.Texts.{withBytes}
 use borrow.Author.Needs.{needs}
 use Rattle.answers.proofs.dates.moment_line.Statement.{statement}

@@ -2,7 +2,7 @@
 use Prim.Native.Nat.{ℕ, suc, _≤_, zero-le}
 use Rattle.answers.proofs.Laws.{sunday}
 use Rattle.answers.specs.Answers.{weekdayName}
-use Rattle.lines.specs.Words.{letters}
+use Rattle.laws.specs.Letters.{letters}
 use Rattle.answers.specs.Texts.{withBytes}
 use borrow.Author.Needs.{needs}
 use mathlib.Core.Path.{_≡_}

@@ -1,5 +1,5 @@
 -- `answers::dates::with_time` meets its contract: two digits after two.
-use Rattle.lines.specs.Words.{letters}
+use Rattle.laws.specs.Letters.{letters}
 use Rattle.answers.specs.Texts.{withBytes}
 use borrow.Author.Needs.{needs}
 use Rattle.answers.proofs.dates.with_time.Statement.{statement}

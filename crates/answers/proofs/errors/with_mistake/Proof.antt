@@ -1,6 +1,6 @@
 -- `answers::errors::with_mistake` meets its contract: the letters of each variant.
 use Rattle.answers.specs.Errors.{mistakeText}
-use Rattle.lines.specs.Words.{letters}
+use Rattle.laws.specs.Letters.{letters}
 use borrow.Author.Needs.{needs}
 use Rattle.answers.proofs.errors.with_mistake.Statement.{statement}
 use Rattle.answers.proofs.errors.with_mistake.Tie as tie

@@ -1,6 +1,6 @@
 -- `answers::errors::with_words` meets its contract: the letters of each variant.
 use Rattle.answers.specs.Errors.{wordsText}
-use Rattle.lines.specs.Words.{letters}
+use Rattle.laws.specs.Letters.{letters}
 use borrow.Author.Needs.{needs}
 use Rattle.answers.proofs.errors.with_words.Statement.{statement}
 use Rattle.answers.proofs.errors.with_words.Tie as tie

@@ -2,6 +2,7 @@
 use mathlib.Core.Path.{sym, _∙_}
 use Rattle.laws.specs.Unique.{OneResult}
 use Rattle.answers.proofs.ok.Reads as ok-reads
+use Rattle.answers.proofs.check_line.Reads as check-line-reads
 use Rattle.answers.proofs.start_line.Reads as start-line-reads
 use Rattle.answers.proofs.samples_line.Reads as samples-line-reads
 use Rattle.answers.proofs.set_line.Reads as set-line-reads
@@ -14,6 +15,9 @@ use Rattle.answers.proofs.error_line.Reads as error-line-reads
 
 pub ok : OneResult ok-reads.Post
 ok κs a x y e f p q = p ∙ sym q
+
+pub check-line : OneResult check-line-reads.Post
+check-line κs a x y e f p q = p ∙ sym q
 
 pub start-line : OneResult start-line-reads.Post
 start-line κs a x y e f p q = p ∙ sym q

@@ -1,12 +1,12 @@
 -- The laws of specs/Laws.antt.
-use mathlib.Core.Path.{_≡_, refl, sym, ap, _∙_}
+use mathlib.Core.Path.{_≡_, refl, _∙_}
 use mathlib.Core.List.{List, [], _∷_, _++_, append-assoc, append-nil}
 use Prim.Native.Nat.{ℕ, zero, suc, _+_, _-_, _*_, _/_, _≤_, _<_}
 use native.Mathlib.Omega.{arith}
 use borrow.Author.Tests.{lt-ltb, le-leb, lt-leb}
 use lib.Dec.{ltb, eqb, leb}
 use lib.IntN.{ℤ, pos, negsuc}
-use lib.ListN.{length, replicate, set, take, drop, length-append, length-take, length-drop, take-append-drop}
+use lib.ListN.{length, replicate, take, drop, length-append, length-take, length-drop, take-append-drop}
 use lib.Seq.{set-append-seam, append-snoc, take-all, drop-drop}
 use Rattle.laws.proofs.If.{if-cases}
 use Rattle.laws.proofs.Tests.{by-test}
@@ -20,12 +20,13 @@ use Rattle.lines.specs.declared.Parameter.{Parameter}
 use Rattle.lines.specs.declared.Parameter.the-variants as parameter
 use Rattle.calendar.specs.declared.Moment.{Moment}
 use Rattle.registers.specs.declared.fleet.Fleet.{Fleet}
+use Rattle.image.specs.Answers.{imageAnswer}
 use Rattle.answers.specs.declared.Text.{Text}
 use Rattle.answers.specs.Texts.{withByte, withBytes, asText}
 use Rattle.answers.specs.Numbers.{decimalIn, decimalOf, signedOf, hexOf}
 use Rattle.answers.specs.Errors.{wordsText, numbersText, mistakeText}
 use Rattle.answers.specs.Answers.{lineEnd, okLine, refusedLine, refusedAt, refusedAfter, startLine, registerLine, imagePart, weekdayName, dateLine, fleetLine, errorLine}
-use Rattle.answers.specs.Laws.{TextIs, Fits, NoneCut, partsFrom, PartsJoin}
+use Rattle.answers.specs.Laws.{TextIs, Fits, NoneCut, EmptyLine, partsFrom, PartsJoin}
 
 -- letters with zeros behind them
 abbrev filled : List ℕ → Text
@@ -176,6 +177,14 @@ none-cut =
       fleet = fleet-short;
       error = error-short;
     }
+
+pub empty-line : EmptyLine
+unfolding letters decimalOf decimalIn imageAnswer
+empty-line = refl
+
+-- the letters of a line stand in its text
+pub text-within : (l : List ℕ) → Fits l → asText l .length ≤ length (asText l .bytes)
+text-within l h = rw (text-is l h, length-append) (omega arith)
 
 -- bytes one after another in hexadecimal
 hex-append : (a b : List ℕ) → hexOf (a ++ b) ≡ hexOf a ++ hexOf b

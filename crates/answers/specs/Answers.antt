@@ -40,7 +40,7 @@ numberLine n = if eqb n 0 then okLine else refusedLine n
 abbrev pub samplesLine : ℕ → ℕ → List ℕ
 samplesLine n k = if eqb n 0 then okLine else refusedAfter n k
 
--- the line of a start
+-- the line of a start, and of the check of an image
 abbrev pub startLine : Answer (Unit {0}) → List ℕ
 startLine (given u) = okLine
 startLine (refused n offset) = refusedAt n offset

@@ -1,14 +1,16 @@
--- What is proved of the lines: none is too long for a text, so that each text is its letters; and the parts of an image's line make the line.
+-- What is proved of the lines: none is too long for a text, so that each text is its letters; that of empty input; and the parts of an image's line make the line.
 use mathlib.Core.Path.{_≡_}
 use mathlib.Core.List.{List, [], _++_}
 use Prim.Native.Nat.{ℕ, zero, suc, _-_, _*_, _≤_}
 use lib.ListN.{length, replicate}
 use Rattle.laws.specs.Answers.{Answer}
+use Rattle.laws.specs.Letters.{letters}
 use Rattle.lines.specs.declared.Mistake.{Mistake}
 use Rattle.calendar.specs.declared.Moment.{Moment}
+use Rattle.image.specs.Answers.{imageAnswer}
 use Rattle.registers.specs.declared.fleet.Fleet.{Fleet}
 use Rattle.answers.specs.Texts.{asText}
-use Rattle.answers.specs.Answers.{numberLine, samplesLine, startLine, registerLine, imageLine, imagePart, dateLine, fleetLine, errorLine}
+use Rattle.answers.specs.Answers.{lineEnd, numberLine, samplesLine, startLine, registerLine, imageLine, imagePart, dateLine, fleetLine, errorLine}
 
 -- a text of at most 256 letters is the letters, with zeros behind them
 abbrev pub TextIs : Type 0
@@ -28,6 +30,10 @@ pub record NoneCut : Type 0 where
   pub date : (a : Answer Moment) → Fits (dateLine a)
   pub fleet : (f : Fleet) → Fits (fleetLine f)
   pub error : (n : ℕ) (m : Mistake) → Fits (errorLine n m)
+
+-- "for empty input exactly `refused 1 at 0`"
+abbrev pub EmptyLine : Type 0
+EmptyLine = startLine (imageAnswer []) ≡ letters "refused 1 at 0" ++ lineEnd
 
 -- parts k, k + 1, .. of an image's line, n of them, one after another
 abbrev pub partsFrom : Answer (Unit {0}) → List ℕ → ℕ → ℕ → List ℕ

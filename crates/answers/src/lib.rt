@@ -5,6 +5,7 @@ mod numbers;
 mod texts;
 
 use calendar::Dated;
+use image::ImageAnswer;
 use image::WriteAnswer;
 use lines::Mistake;
 use numbers::with_hex;
@@ -25,7 +26,7 @@ ghost use Rattle.laws.specs.Answers.{given, refused};
 ghost use Rattle.calendar.specs.Moments.{momentOf};
 ghost use Rattle.sampling.specs.Samples.{sampleNumber};
 ghost use Rattle.recorder.specs.Calls.{startNumber, setNumber, readingNumber};
-ghost use Rattle.image.specs.Answers.{writeSaid};
+ghost use Rattle.image.specs.Answers.{imageAnswer, writeSaid};
 ghost use Rattle.registers.specs.Registers.{registerSaid};
 ghost use Rattle.answers.specs.Texts.{withBytes, asText};
 ghost use Rattle.answers.specs.Numbers.{decimalOf, hexOf};
@@ -65,6 +66,19 @@ fn refused_after(number: u64, taken: u64) -> Text
     let word = with_bytes(texts::blank(), b"refused ");
     let after = with_bytes(with_number(word, number), b" after ");
     with_byte(with_number(after, taken), b'\n')
+}
+
+// The check of an image, as the image tester prints it.
+pub fn check_line(bytes: &[u8]) -> Text
+    ensures { λ r. ⌜ r ≡ asText (startLine (imageAnswer (now (bytes .entry)))) ⌝ }
+{
+    match image::check_image(bytes) {
+        ImageAnswer::Accepted => ok(),
+        ImageAnswer::Length => refused_at(1, 0),
+        ImageAnswer::Mark => refused_at(2, 0),
+        ImageAnswer::Version => refused_at(3, 3),
+        ImageAnswer::Value(offset) => refused_at(4, offset),
+    }
 }
 
 pub fn start_line(answer: StartAnswer) -> Text

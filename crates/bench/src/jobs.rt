@@ -3,6 +3,7 @@ use crate::report::write_number;
 use crate::report::write_registers;
 use calendar::Dated;
 use calendar::Moment;
+use image::IMAGE_LENGTH;
 use image::ImageAnswer;
 use recorder::Recorder;
 use recorder::SampleAnswer;
@@ -35,7 +36,7 @@ fn with_readings(recorder: Recorder) -> Recorder {
     now
 }
 
-fn started(image: [u8; 1126]) -> Recorder {
+fn started(image: [u8; IMAGE_LENGTH]) -> Recorder {
     let start = Recorder::start(&image, START);
     let recorder = start.recorder;
     with_readings(recorder)
@@ -90,7 +91,7 @@ fn image_number(answer: ImageAnswer) -> u64 {
 }
 
 // The image with another age limit each time, which breaks no rule.
-fn images(image: [u8; 1126], rounds: u32) {
+fn images(image: [u8; IMAGE_LENGTH], rounds: u32) {
     let mut bytes = image;
     let mut sum: u64 = 0;
     for i in 0..(rounds as usize) {
@@ -173,7 +174,7 @@ fn moments(rounds: u32) {
     write_number(sum);
 }
 
-pub(crate) fn run(letter: u8, image: [u8; 1126], bits: [u16; 1000], rounds: u32) {
+pub(crate) fn run(letter: u8, image: [u8; IMAGE_LENGTH], bits: [u16; 1000], rounds: u32) {
     match letter {
         b's' => samples(started(image), bits, rounds),
         b'o' => singles(started(image), bits, rounds),

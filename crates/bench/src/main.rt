@@ -3,6 +3,7 @@
 mod jobs;
 mod report;
 
+use image::IMAGE_LENGTH;
 use libc::STDIN_FILENO;
 use libc::STDOUT_FILENO;
 
@@ -38,7 +39,7 @@ fn rounds() -> u32 {
     number_of(&word[..n])
 }
 
-fn run(letters: &[u8], image: [u8; 1126], bits: [u16; 1000], rounds: u32) {
+fn run(letters: &[u8], image: [u8; IMAGE_LENGTH], bits: [u16; 1000], rounds: u32) {
     for i in 0..letters.len() {
         jobs::run(letters[i], image, bits, rounds);
     }
@@ -52,7 +53,7 @@ fn main() {
         );
         return;
     }
-    let mut image = [0u8; 1126];
+    let mut image = [0u8; IMAGE_LENGTH];
     let mut bytes = [0u8; 2000];
     io::read_full(STDIN_FILENO, &mut image);
     io::read_full(STDIN_FILENO, &mut bytes);

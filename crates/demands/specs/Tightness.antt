@@ -25,7 +25,6 @@ use Rattle.image.proofs.check_image.Reads as image-check-image
 use Rattle.image.proofs.write_image.Reads as image-write-image
 use Rattle.image.proofs.write_then_read.Reads as image-write-then-read
 use Rattle.image.proofs.read_then_write.Reads as image-read-then-write
-use Rattle.image.proofs.tester_line.Reads as image-tester-line
 use Rattle.counting.proofs.filter.advance.Reads as counting-advance
 use Rattle.counting.proofs.filter.kind_mask.Reads as counting-kind-mask
 use Rattle.counting.proofs.filter.running_lines.Reads as counting-running-lines
@@ -56,6 +55,7 @@ use Rattle.registers.proofs.read_register.Reads as registers-read-register
 use Rattle.registers.proofs.fleet_of.Reads as registers-fleet-of
 use Rattle.lines.proofs.line_of.Reads as lines-line-of
 use Rattle.answers.proofs.ok.Reads as answers-ok
+use Rattle.answers.proofs.check_line.Reads as answers-check-line
 use Rattle.answers.proofs.start_line.Reads as answers-start-line
 use Rattle.answers.proofs.samples_line.Reads as answers-samples-line
 use Rattle.answers.proofs.set_line.Reads as answers-set-line
@@ -114,7 +114,6 @@ pub record Tight : Type 1 where
   pub image-write-image : AloneAndLent (λ κs e. now (e .1 .0)) image-write-image.Post image-write-image.Asked
   pub image-write-then-read : Alone image-write-then-read.Post image-write-then-read.Asked
   pub image-read-then-write : Alone image-read-then-write.Post image-read-then-write.Asked
-  pub image-tester-line : Alone image-tester-line.Post image-tester-line.Asked
   -- crate counting
   pub counting-advance : Lent (λ κs e. now (e .0) ∷ []) counting-advance.Post counting-advance.Asked
   pub counting-kind-mask : Alone counting-kind-mask.Post counting-kind-mask.Asked
@@ -151,6 +150,7 @@ pub record Tight : Type 1 where
   pub lines-line-of : Alone lines-line-of.Post lines-line-of.Asked
   -- crate answers
   pub answers-ok : Alone answers-ok.Post answers-ok.Asked
+  pub answers-check-line : Alone answers-check-line.Post answers-check-line.Asked
   pub answers-start-line : Alone answers-start-line.Post answers-start-line.Asked
   pub answers-samples-line : Alone answers-samples-line.Post answers-samples-line.Asked
   pub answers-set-line : Alone answers-set-line.Post answers-set-line.Asked

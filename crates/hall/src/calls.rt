@@ -1,6 +1,7 @@
 // The calls on the recorder, each with its answer.
 use crate::output::put_text;
 use answers::Text;
+use image::IMAGE_LENGTH;
 use lines::Line;
 use lines::Mistake;
 use recorder::Recorder;
@@ -149,11 +150,11 @@ fn register(desk: Desk, out: &mut [u8], group: u32, number: u32, room: u32) -> D
 fn write_image(desk: Desk, out: &mut [u8]) -> Desk {
     let recorder = desk.recorder;
     let config = recorder.config;
-    let mut image = [0u8; 1126];
+    let mut image = [0u8; IMAGE_LENGTH];
     let answer = image::write_image(config, &mut image);
     let mut at = desk.at;
     let mut from = 0;
-    while from < 1126 {
+    while from < IMAGE_LENGTH {
         at = put_text(out, at, answers::image_part(answer, &image, from));
         from += 100;
     }

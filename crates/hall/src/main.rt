@@ -5,6 +5,7 @@ mod calls;
 mod output;
 
 use calls::Desk;
+use image::IMAGE_LENGTH;
 use libc::STDIN_FILENO;
 use libc::STDOUT_FILENO;
 ghost use Prim.Native.Nat.{_≤_};
@@ -145,7 +146,7 @@ fn with_image(path: &[u8]) {
         io::write_all(STDOUT_FILENO, b"error: the image cannot be read\n");
         return;
     }
-    let mut image = [0u8; 1127];
+    let mut image = [0u8; IMAGE_LENGTH + 1];
     let n = io::read_full(file, &mut image);
     libc::close(file);
     run(&image[..n]);

@@ -8,11 +8,11 @@ use Rattle.laws.proofs.If.{if-cases}
 use Rattle.laws.specs.Answers.{Answer, given}
 use Rattle.recorder.specs.Meters.{classOf, ageOf}
 use Rattle.calendar.proofs.Moments.{found-is-moment}
-use Rattle.image.proofs.Lines.{refusal-in-line}
+use Rattle.image.proofs.Refusals.{refusal-within}
 use Rattle.host.specs.Laws.{ComesApart, MomentsAreSome, ClassesBelow}
 
 pub comes-apart : ComesApart
-comes-apart image n offset e = let small = refusal-in-line image n offset e in rw e (omega arith, omega arith)
+comes-apart image n offset e = let small = refusal-within image n offset e in rw e (omega arith, omega arith)
 
 pub moments-are-some : MomentsAreSome
 moments-are-some t m e = let first = found-is-moment t m (sym e) .date .first-year in rw e (omega arith)

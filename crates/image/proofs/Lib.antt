@@ -5,5 +5,5 @@ pub mod Answers
 pub mod Laws
 pub mod Found
 pub mod Trips
-pub mod Lines
+pub mod Refusals
 pub mod Unique

@@ -13,7 +13,6 @@ use Rattle.image.proofs.check_image.Reads as check-image-reads
 use Rattle.image.proofs.write_image.Reads as write-image-reads
 use Rattle.image.proofs.write_then_read.Reads as write-then-read-reads
 use Rattle.image.proofs.read_then_write.Reads as read-then-write-reads
-use Rattle.image.proofs.tester_line.Reads as tester-line-reads
 
 -- document 01's number and offset tell all answers to an image apart
 pub image-apart : (x y : ImageAnswer) → imageSaid x ≡ imageSaid y → x ≡ y
@@ -85,6 +84,3 @@ read-then-write κs a x y e f p q =
     let answer = image-apart (x .answer) (y .answer) (p .answer ∙ sym (q .answer)) in
     let image = p .image ∙ sym (q .image) in
     λ i. record { answer = answer i; image = image i }
-
-pub tester-line : OneResult tester-line-reads.Post
-tester-line κs a x y e f p q = p ∙ sym q

@@ -1,6 +1,6 @@
 -- What is proved of the image (proofs/Laws.antt), for the layers above and for a reader who doubts the definitions.
 use mathlib.Core.Logic.{_↔_}
-use mathlib.Core.List.{List, [], _∷_, _++_}
+use mathlib.Core.List.{List}
 use mathlib.Core.Path.{_≡_}
 use Prim.Native.Nat.{ℕ, _<_}
 use Rattle.laws.specs.Answers.{given, refused}
@@ -9,7 +9,6 @@ use Rattle.laws.specs.Bytes.{Bytes}
 use Rattle.image.specs.Image.{encode, Counted, Typed}
 use Rattle.settings.specs.Check.{sections, checked, Holds, FirstBadAt}
 use Rattle.image.specs.Answers.{imageAnswer, imageConfig}
-use Rattle.image.specs.Line.{refusedWord, atWord, lineOf}
 use Rattle.settings.specs.declared.Config.{Config}
 
 -- "A configuration written and read back is the same configuration": each good one, whose numbers fit their fields
@@ -28,13 +27,9 @@ ReadIsGood = (b : List ℕ) → imageAnswer b ≡ given tt → checked (imageCon
 abbrev pub OneConfig : Type 0
 OneConfig = (c d : Config) → Counted c → Typed c → Counted d → Typed d → encode c ≡ encode d → c ≡ d
 
--- the refusals of an image have one digit, and offsets within the image: so the tester's line shows both as they are
-abbrev pub RefusalInLine : Type 0
-RefusalInLine = (b : List ℕ) (n offset : ℕ) → imageAnswer b ≡ refused n offset → (n < 10) × (offset < 1126)
-
--- "for empty input exactly `refused 1 at 0`", with the end of the line
-abbrev pub EmptyLine : Type 0
-EmptyLine = lineOf (imageAnswer []) ≡ refusedWord ++ (49 ∷ (atWord ++ (48 ∷ 10 ∷ [])))
+-- the refusals of an image have one digit, and offsets within the image
+abbrev pub RefusalWithin : Type 0
+RefusalWithin = (b : List ℕ) (n offset : ℕ) → imageAnswer b ≡ refused n offset → (n < 10) × (offset < 1126)
 
 -- a check finds nothing exactly if each entry of each section keeps its rule
 abbrev pub GoodExactly : Type 0

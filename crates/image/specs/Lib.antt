@@ -2,5 +2,4 @@
 pub mod Entries
 pub mod Image
 pub mod Answers
-pub mod Line
 pub mod Laws

@@ -1,6 +1,5 @@
 // The configuration read from an image and written to one. Its types, the rule of each entry and the check are those of crate settings, passed on.
 mod le;
-mod letters;
 mod read;
 mod write;
 
@@ -17,11 +16,12 @@ use tariff::Rule;
 use tariff::Season;
 use tariff::Window;
 ghost use mathlib.Core.Path.{_≡_};
-ghost use Prim.Native.Nat.{_+_, _*_, _<_};
 ghost use lib.ListN.{length};
 ghost use Rattle.image.specs.Image.{blankProgram, blankConfig};
-ghost use Rattle.image.specs.Line.{testerLine};
-ghost use Rattle.image.specs.Answers.{verdictSaid, imageSaid, writeSaid, refusedWith, imageAnswer, imageConfig, IsRead, writeAnswer, afterWrite, ComesBack, IsCopy};
+ghost use Rattle.image.specs.Answers.{imageSaid, writeSaid, refusedWith, imageAnswer, IsRead, writeAnswer, afterWrite, ComesBack, IsCopy};
+
+// How many bytes an image has.
+pub const IMAGE_LENGTH: usize = 1126;
 
 // What an image is answered.
 pub enum ImageAnswer {
@@ -48,13 +48,7 @@ pub enum WriteAnswer {
 // An image written anew, and zeros beside a refusal.
 pub struct ImageCopy {
     pub answer: ImageAnswer,
-    pub image: [u8; 1126],
-}
-
-// A line of letters: the first `length` of the text.
-pub struct Line {
-    pub text: [u8; 18],
-    pub length: usize,
+    pub image: [u8; IMAGE_LENGTH],
 }
 
 fn blank_program() -> Program
@@ -113,7 +107,7 @@ fn refused(a: ImageAnswer) -> ImageRead
 pub fn check_image(bytes: &[u8]) -> ImageAnswer
     ensures { λ r. ⌜ imageSaid r ≡ imageAnswer (now (bytes .entry)) ⌝ }
 {
-    if bytes.len() != 1126 {
+    if bytes.len() != IMAGE_LENGTH {
         return ImageAnswer::Length;
     }
     let marked = (bytes[0] == b'K') & (bytes[1] == b'R') & (bytes[2] == b'C');
@@ -153,7 +147,7 @@ pub fn write_image(config: Config, buffer: &mut [u8]) -> WriteAnswer
 {
     match check_config(config) {
         Verdict::Good => {
-            if buffer.len() < 1126 {
+            if buffer.len() < IMAGE_LENGTH {
                 return WriteAnswer::NoRoom;
             }
             write::config(buffer, config);
@@ -167,7 +161,7 @@ pub fn write_image(config: Config, buffer: &mut [u8]) -> WriteAnswer
 pub fn write_then_read(config: Config) -> ImageRead
     ensures { λ r. ⌜ ComesBack config r ⌝ }
 {
-    let mut image = [0u8; 1126];
+    let mut image = [0u8; IMAGE_LENGTH];
     if let WriteAnswer::Value(offset) = write_image(config, &mut image) {
         return refused(ImageAnswer::Value(offset));
     }
@@ -178,7 +172,7 @@ pub fn write_then_read(config: Config) -> ImageRead
 pub fn read_then_write(bytes: &[u8]) -> ImageCopy
     ensures { λ r. ⌜ IsCopy (now (bytes .entry)) r ⌝ }
 {
-    let mut image = [0u8; 1126];
+    let mut image = [0u8; IMAGE_LENGTH];
     let read = read_image(bytes);
     let answer = read.answer;
     let config = read.config;
@@ -187,11 +181,4 @@ pub fn read_then_write(bytes: &[u8]) -> ImageCopy
         answer: answer,
         image: image,
     }
-}
-
-// The line that the image tester prints for an image, with its end.
-pub fn tester_line(bytes: &[u8]) -> Line
-    ensures { λ r. ⌜ r ≡ testerLine (now (bytes .entry)) ⌝ }
-{
-    letters::line_of(check_image(bytes))
 }

@@ -2,14 +2,14 @@
 use mathlib.Core.Path.{sym, ap, _∙_}
 use borrow.Author.Needs.{needs}
 use Rattle.image.specs.Answers.{imageSaid}
-use Rattle.image.proofs.Lines.{refusal-in-line}
+use Rattle.image.proofs.Refusals.{refusal-within}
 use Rattle.host.specs.Host.{imageNumber}
 use Rattle.host.proofs.recorder_image_check.Statement.{statement}
 use Rattle.host.proofs.recorder_image_check.Tie as tie
 
 refusal-requires-4 : tie.Need-refusal-requires-4
 refusal-requires-4 c κs =
-    refusal-in-line _ 4 _ (sym (c .before .before .before .check-image .ensures) ∙ ap imageSaid (c .before .offset .given .1))
+    refusal-within _ 4 _ (sym (c .before .before .before .check-image .ensures) ∙ ap imageSaid (c .before .offset .given .1))
 
 returns : tie.Need-returns
 returns c = ap imageNumber (sym (ap imageSaid (c .enum-told .given .1)) ∙ c .before .before .check-image .ensures)

@@ -1,29 +1,23 @@
--- The tester's line: its letters stand in its text, and it shows number and offset as they are.
-use mathlib.Core.Path.{_≡_, refl, sym}
+-- The refusals of an image: one digit, and an offset within the image.
+use mathlib.Core.Path.{_≡_, sym}
 use mathlib.Core.List.{List, [], _∷_}
 use Prim.Native.Nat.{ℕ, suc, _+_, _*_, _<_, _≤_}
 use native.Mathlib.Nat.{mul-suc, mul-le-mul-left}
 use native.Mathlib.Omega.{arith}
 use borrow.Author.Tests.{ltb-true}
 use lib.Dec.{eqb, ltb, lit≤}
-use lib.ListN.{length, drop, length-append}
+use lib.ListN.{length, drop}
 use Rattle.laws.proofs.Tests.{by-test}
 use Rattle.laws.specs.Each.{Each}
 use Rattle.laws.specs.Broken.{firstBroken}
-use Rattle.laws.specs.Answers.{Answer, given, refused}
+use Rattle.laws.specs.Answers.{Answer, refused}
 use Rattle.laws.specs.Bytes.{le}
 use Rattle.image.specs.Image.{decode}
 use Rattle.settings.specs.Check.{Section, sections, firstBad, checked}
 use Rattle.image.specs.Answers.{marked, imageAnswer}
-use Rattle.image.specs.Line.{decimal, lineOf, asLine}
-use Rattle.image.specs.Laws.{RefusalInLine, EmptyLine}
+use Rattle.image.specs.Laws.{RefusalWithin}
 use Rattle.settings.specs.declared.Config.{Config}
 use Rattle.image.proofs.Laws.{never}
-
--- the letters of a line stand in its text
-pub line-within : (l : List ℕ) → asLine l .length ≤ length (asLine l .text)
-unfolding asLine
-line-within l = rw length-append (omega arith)
 
 -- a section ends within the image, and its entries have bytes
 abbrev Within : Section → Type 0
@@ -49,9 +43,9 @@ sections-within : (c : Config) → Each Within (sections c)
 unfolding sections
 sections-within c = ((lit≤ tt, lit≤ tt), ((lit≤ tt, lit≤ tt), ((lit≤ tt, lit≤ tt), ((lit≤ tt, lit≤ tt), ((lit≤ tt, lit≤ tt), ((lit≤ tt, lit≤ tt), ((lit≤ tt, lit≤ tt), ((lit≤ tt, lit≤ tt), ((lit≤ tt, lit≤ tt), ((lit≤ tt, lit≤ tt), ((lit≤ tt, lit≤ tt), ((lit≤ tt, lit≤ tt), tt))))))))))))
 
-pub refusal-in-line : RefusalInLine
+pub refusal-within : RefusalWithin
 unfolding imageAnswer checked
-refusal-in-line b n offset e =
+refusal-within b n offset e =
     by-test (eqb (length b) 1126)
     (λ l. by-test (marked b)
     (λ m. by-test (eqb (le 2 (drop 3 b)) 1)
@@ -65,7 +59,3 @@ refusal-in-line b n offset e =
         let a : k ≡ n = cc in
         let d : o ≡ offset = cc in
         (omega arith, omega arith)
-
-pub empty-line : EmptyLine
-unfolding lineOf decimal imageAnswer
-empty-line = refl

@@ -19,7 +19,7 @@ use Rattle.laws.specs.Answers.{given}
 use Rattle.laws.specs.Letters.{letters}
 use Rattle.answers.specs.declared.Text.{Text}
 use Rattle.answers.specs.Texts.{withByte, withBytes}
-use Rattle.answers.specs.Numbers.{digit, decimalIn, decimalOf, signedOf, hexDigit, hexOf}
+use Rattle.answers.specs.Numbers.{digit, decimalIn, decimalOf, decimalSigned, hexDigit, hexOf}
 use Rattle.answers.specs.Answers.{lineEnd, imagePart, weekdayNames, weekdayName}
 
 -- letters after letters
@@ -87,14 +87,14 @@ module _ (n : ℕ) where
   decimal-long h g = last-digit 18 n h (lt-trans g (lit< tt))
 
 -- a negative number: the minus, and what stands behind it
-pub signed-negative : (z : ℤ) → ltZ z (pos 0) ≡ true → signedOf z ≡ 45 ∷ decimalOf (mag z + 1)
-unfolding signedOf
+pub signed-negative : (z : ℤ) → ltZ z (pos 0) ≡ true → decimalSigned z ≡ 45 ∷ decimalOf (mag z + 1)
+unfolding decimalSigned
 signed-negative (pos n) t = absurd (not-suc-le-zero (ltb-true n 0 t))
 signed-negative (negsuc n) t = rw (add-one n)
 
 -- any other: its bits are the number
-pub signed-natural : (z : ℤ) → ltZ z (pos 0) ≡ false → signedOf z ≡ decimalOf (ofZ w64 z)
-unfolding signedOf
+pub signed-natural : (z : ℤ) → ltZ z (pos 0) ≡ false → decimalSigned z ≡ decimalOf (ofZ w64 z)
+unfolding decimalSigned
 signed-natural (pos n) t = refl
 signed-natural (negsuc n) t = absurd (true≢false t)
 

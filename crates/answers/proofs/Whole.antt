@@ -23,7 +23,7 @@ use Rattle.registers.specs.declared.fleet.Fleet.{Fleet}
 use Rattle.image.specs.Answers.{imageAnswer}
 use Rattle.answers.specs.declared.Text.{Text}
 use Rattle.answers.specs.Texts.{withByte, withBytes, asText}
-use Rattle.answers.specs.Numbers.{decimalIn, decimalOf, signedOf, hexOf}
+use Rattle.answers.specs.Numbers.{decimalIn, decimalOf, decimalSigned, hexOf}
 use Rattle.answers.specs.Errors.{wordsText, numbersText, mistakeText}
 use Rattle.answers.specs.Answers.{lineEnd, okLine, refusedLine, refusedAt, refusedAfter, startLine, registerLine, imagePart, weekdayName, dateLine, fleetLine, errorLine}
 use Rattle.answers.specs.Laws.{TextIs, Fits, NoneCut, EmptyLine, partsFrom, PartsJoin}
@@ -64,8 +64,8 @@ digits : (n : ℕ) → length (decimalOf n) ≤ 20
 unfolding decimalOf
 digits n = places 20 n
 
-sign : (z : ℤ) → length (signedOf z) ≤ 21
-unfolding signedOf
+sign : (z : ℤ) → length (decimalSigned z) ≤ 21
+unfolding decimalSigned
 sign (pos n) = let h = digits n in omega arith
 sign (negsuc n) = let h = digits (suc n) in omega arith
 

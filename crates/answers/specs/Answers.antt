@@ -10,7 +10,7 @@ use Rattle.lines.specs.declared.Mistake.{Mistake}
 use Rattle.calendar.specs.declared.Moment.{Moment}
 use Rattle.registers.specs.declared.fleet.Fleet.{Fleet}
 use Rattle.answers.specs.Errors.{mistakeText}
-use Rattle.answers.specs.Numbers.{decimalOf, signedOf, twoDigits, hexOf}
+use Rattle.answers.specs.Numbers.{decimalOf, decimalSigned, twoDigits, hexOf}
 
 -- the end of a line
 abbrev pub lineEnd : List ℕ
@@ -93,7 +93,7 @@ classesText f =
 
 -- `fitted 31 awake 26 stale 4 invalid 1 never 0 sum 12345`
 unfoldable pub fleetLine : Fleet → List ℕ
-fleetLine f = letters "fitted " ++ (decimalOf (f .fitted) ++ (classesText f ++ (letters " sum " ++ (signedOf (f .sum) ++ lineEnd))))
+fleetLine f = letters "fitted " ++ (decimalOf (f .fitted) ++ (classesText f ++ (letters " sum " ++ (decimalSigned (f .sum) ++ lineEnd))))
 
 -- the line of a wrong line: its number, counted from 1, and what would be right there
 unfoldable pub errorLine : ℕ → Mistake → List ℕ

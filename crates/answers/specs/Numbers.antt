@@ -1,6 +1,6 @@
 -- Numbers in letters.
 use mathlib.Core.List.{List, [], _∷_, _++_}
-use Prim.Native.Nat.{ℕ, zero, suc, _+_, _-_, _/_, _%_}
+use Prim.Native.Nat.{ℕ, zero, suc, _+_, _/_, _%_}
 use lib.Dec.{ltb}
 use lib.IntN.{ℤ, pos, negsuc}
 use Rattle.laws.specs.If.{if_then_else_}
@@ -19,9 +19,9 @@ unfoldable pub decimalOf : ℕ → List ℕ
 decimalOf n = decimalIn 20 n
 
 -- a number with a sign in decimal; 45 is the minus
-unfoldable pub signedOf : ℤ → List ℕ
-signedOf (pos n) = decimalOf n
-signedOf (negsuc n) = 45 ∷ decimalOf (suc n)
+unfoldable pub decimalSigned : ℤ → List ℕ
+decimalSigned (pos n) = decimalOf n
+decimalSigned (negsuc n) = 45 ∷ decimalOf (suc n)
 
 -- the last two decimal digits
 abbrev pub twoDigits : ℕ → List ℕ

@@ -4,7 +4,7 @@ use crate::texts::with_byte;
 ghost use mathlib.Core.Path.{_≡_};
 ghost use mathlib.Core.List.{_∷_};
 ghost use Rattle.answers.specs.Texts.{withBytes};
-ghost use Rattle.answers.specs.Numbers.{decimalOf, signedOf, twoDigits, hexOf};
+ghost use Rattle.answers.specs.Numbers.{decimalOf, decimalSigned, twoDigits, hexOf};
 ghost use Rattle.answers.specs.Numbers.{digit as Numbers·digit, hexDigit as Numbers·hexDigit};
 
 fn digit(n: u64) -> u8
@@ -26,7 +26,7 @@ pub(crate) fn with_number(text: Text, n: u64) -> Text
 
 // With a minus sign where it is negative. Of a negative number, !z is one less than what stands behind the sign.
 pub(crate) fn with_signed(text: Text, z: i64) -> Text
-    ensures { λ r. ⌜ r ≡ withBytes text (signedOf z) ⌝ }
+    ensures { λ r. ⌜ r ≡ withBytes text (decimalSigned z) ⌝ }
 {
     if z < 0 {
         let minus = with_byte(text, b'-');

@@ -1,21 +1,20 @@
 -- The laws of specs/Laws.antt: what `momentOf` means, and how moments follow each other.
 use mathlib.Core.Path.{_≡_, refl, sym, ap, subst, _∙_}
-use mathlib.Core.Logic.{_↔_, inl, inr}
-use mathlib.Core.Bool.{true}
-use Prim.Native.Nat.{ℕ, suc, _+_, _-_, _*_, _/_, _%_, _^_, _<_, _≤_}
+use mathlib.Core.Logic.{inl, inr}
+use Prim.Native.Nat.{ℕ, suc, _+_, _-_, _*_, _/_, _%_, _<_, _≤_}
 use native.Mathlib.Nat.{le-refl}
 use native.Mathlib.Omega.{arith}
 use lib.Dec.{ltb, leb, eqb}
-use borrow.Author.Tests.{ltb-true, ltb-false, lt-ltb, leb-true, le-leb, eqb-true}
+use borrow.Author.Tests.{ltb-true, ltb-false, leb-true, le-leb, eqb-true}
 use Rattle.laws.proofs.If.{if-cases}
 use Rattle.laws.proofs.Tests.{by-test, and-left, and-right, and-both}
 use Rattle.laws.specs.Total.{total}
 use Rattle.laws.proofs.Total.{total-more, total-grows}
 use Rattle.laws.specs.Spans.{span}
 use Rattle.laws.proofs.Spans.{span-low, span-high, span-below}
-use Rattle.laws.specs.Answers.{Answer, given, refused}
-use Rattle.calendar.specs.Dates.{leapYear, dayExists, monthLength, yearLength, dayNumber, weekdayOf}
-use Rattle.calendar.specs.Moments.{DateExists, dayOf, IsMoment, yearDay, momentAt, momentOf, atSecond, onDate, dayAfter}
+use Rattle.laws.specs.Answers.{given, refused}
+use Rattle.calendar.specs.Dates.{leapYear, monthLength, yearLength, dayNumber, weekdayOf}
+use Rattle.calendar.specs.Moments.{DateExists, dayOf, IsMoment, yearDay, momentAt, momentOf, onDate, dayAfter}
 use Rattle.calendar.specs.Laws.{FoundIsMoment, MomentIsFound, OneMoment, NoDateExactly, DatedOrNot, AlwaysDated, OneDate, NextDay, SameMinute, SomeYear}
 use Rattle.calendar.specs.declared.Moment.{Moment}
 use Rattle.calendar.proofs.Months.{no-month, months-fill, year-is, year-below, left-below, month-is, no-year, has-days, year-begins, year-ends}

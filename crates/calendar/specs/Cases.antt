@@ -7,12 +7,12 @@ use Rattle.calendar.specs.Moments.{momentOf}
 use Rattle.calendar.specs.declared.Moment.{Moment}
 
 -- a case of the table: a second and its moment
-pub data Case : Type 0 where
-  moment-of : ℕ → Moment → Case
+pub data MomentCase : Type 0 where
+  moment-of : ℕ → Moment → MomentCase
 
 -- what a case claims
-abbrev pub Claim : Case → Type 0
-Claim (moment-of t m) = momentOf t ≡ given m
+abbrev pub MomentClaim : MomentCase → Type 0
+MomentClaim (moment-of t m) = momentOf t ≡ given m
 
 -- weekdays as the moment has them
 abbrev monday : ℕ
@@ -35,8 +35,8 @@ abbrev moment : ℕ → ℕ → ℕ → ℕ → ℕ → ℕ → ℕ → Moment
 moment w d m y h i s = record { year = y; month = m; day = d; weekday = w; hour = h; minute = i; second = s }
 
 -- lines 1 to 4; of line 4 also the second before, which is on 28.02
-abbrev pub cases : List Case
-cases =
+abbrev pub momentCases : List MomentCase
+momentCases =
     moment-of 0 (moment thursday 1 1 1970 0 0 0)
     ∷ moment-of 100_000_000 (moment saturday 3 3 1973 9 46 40)
     ∷ moment-of 951_782_400 (moment tuesday 29 2 2000 0 0 0)

@@ -1,9 +1,8 @@
 -- The sums of the inputs' units, made in place from the inputs of a mask.
--- The sums of the inputs' units, made input by input in place.
 use mathlib.Core.Path.{_≡_, refl, sym, ap, _∙_}
 use mathlib.Core.List.{List, [], _∷_}
-use Prim.Native.Nat.{ℕ, zero, suc, _-_, _^_, _<_, _≤_}
-use native.Mathlib.Nat.{not-suc-le-zero, le-of-suc-le-suc, zero-add}
+use Prim.Native.Nat.{ℕ, _-_, _^_, _<_, _≤_}
+use native.Mathlib.Nat.{zero-add}
 use native.Mathlib.Omega.{arith}
 use lib.Bits.{bitAnd}
 use lib.Count.{trailingZeros}
@@ -13,30 +12,16 @@ use lib.Seq.{getD-set-same, getD-set-other}
 use mir.Syntax.{w32}
 use mir.Val.{Fits}
 use borrow.Author.Tests.{ltb-true, ltb-false}
+use Rattle.laws.specs.If.{if_then_else_}
 use Rattle.laws.proofs.If.{if-same, if-cases}
 use Rattle.laws.specs.Masks.{bitAt}
 use Rattle.laws.specs.Tables.{table}
-use Rattle.laws.proofs.Tables.{length-table, table-at, table-cong, fillTo}
+use Rattle.laws.proofs.Tables.{length-table, table-at, table-past, table-cong}
 use Rattle.laws.proofs.Tests.{by-test}
 use Rattle.laws.proofs.Total.{total-zero, total-one, total-within}
-use Rattle.counting.specs.Bills.{unitAt, partOf, namedPart, sumOf, sumAt, sumsOf}
+use Rattle.counting.specs.Bills.{unitAt, sumOf, sumAt, sumsOf}
 use Rattle.counting.specs.ByMask.{maskedUnits, addedUnits, Below}
-use Rattle.counting.proofs.Sparse.{Half, doneAt, half-next, half-turn, half-done, lowest-below}
-
--- half way through a loop an element that has not been reached is as it was
-pub fill-rest : {A : Type 0} (f : ℕ → A) (n i : ℕ) (xs : List A) (d : A) → n ≤ i → getD (fillTo f n xs) i d ≡ getD xs i d
-unfolding fillTo
-fill-rest f zero i xs d h = refl
-fill-rest f (suc n) i [] d h = refl
-fill-rest f (suc n) zero (x ∷ xs) d h = absurd (not-suc-le-zero h)
-fill-rest f (suc n) (suc i) (x ∷ xs) d h = fill-rest (λ j. f (suc j)) n i xs d (le-of-suc-le-suc h)
-
--- past a table's end there is nothing
-table-past : {A : Type 0} (n : ℕ) (f : ℕ → A) (i : ℕ) (d : A) → n ≤ i → getD (table n f) i d ≡ d
-unfolding table
-table-past zero f i d h = refl
-table-past (suc n) f zero d h = absurd (not-suc-le-zero h)
-table-past (suc n) f (suc i) d h = table-past n (λ j. f (suc j)) i d (le-of-suc-le-suc h)
+use Rattle.laws.proofs.Sparse.{Half, doneAt, half-next, half-turn, half-done, lowest-below}
 
 -- the units of the inputs that have been gone through, none of the others
 abbrev pub unitsPast : List ℕ → ℕ → ℕ → List ℕ
@@ -49,7 +34,7 @@ no-totals = refl
 
 -- the sums of no units
 no-sums : (sums : List ℕ) (f : ℕ → ℕ) → ((i : ℕ) → i < 16 → f i ≡ 0) → (0 ∷ 0 ∷ 0 ∷ 0 ∷ 0 ∷ 0 ∷ 0 ∷ 0 ∷ []) ≡ sumsOf sums (table 16 f)
-unfolding sumsOf sumAt sumOf namedPart
+unfolding sumsOf sumAt sumOf
 no-sums sums f none =
     no-totals
     ∙ table-cong 8 (λ k. 0) _
@@ -57,14 +42,14 @@ no-sums sums f none =
 
 -- the sums with the units of one input that had none
 sums-set : (sums xs : List ℕ) (i v : ℕ) → i < 16 → length xs ≡ 16 → unitAt xs i ≡ 0 → addedUnits (sumsOf sums xs) sums i v ≡ sumsOf sums (set xs i v)
-unfolding addedUnits sumsOf sumAt sumOf namedPart
+unfolding addedUnits sumsOf sumAt sumOf
 sums-set sums xs i v l size none =
     table-cong 8 _ _
     (λ k m.
     let s = getD sums k 0 in
     let here : i < length xs = omega arith in
     rw (table-at 8 (sumAt sums xs) k 0 m)
-    (sym (total-one 16 (namedPart s (unitAt xs)) (namedPart s (unitAt (set xs i v))) i (partOf (bitAt s i) v) l
+    (sym (total-one 16 _ _ i (if bitAt s i then v else 0) l
     (rw (getD-set-same xs i v 0 here, none, if-same {A = ℕ} (bitAt s i) 0) (sym (zero-add _)))
     (λ j n d. rw (getD-set-other xs i j v 0 d)))))
 
@@ -119,10 +104,10 @@ module _ (sums units : List ℕ) (mask : ℕ) where
 
   -- so there is room for the units of one more
   pub sums-below : (left : ℕ) (totals : List ℕ) → totals ≡ sumsOf sums (unitsPast units mask left) → ((j : ℕ) → Fits w32 (unitAt units j)) → Below totals
-  unfolding sumsOf sumAt sumOf namedPart
+  unfolding sumsOf sumAt sumOf
   sums-below left totals e h k =
       let xs = unitsPast units mask left in
-      let part : (j : ℕ) → namedPart (getD sums k 0) (unitAt xs) j ≤ 4_294_967_295 =
+      let part : (j : ℕ) → (if bitAt (getD sums k 0) j then unitAt xs j else 0) ≤ 4_294_967_295 =
       λ j. if-cases (λ u. u ≤ 4_294_967_295) (bitAt (getD sums k 0) j) (λ b. past-fits left j h) (λ b. omega arith) in
       rw e
       (by-test (ltb k 8)

@@ -10,12 +10,13 @@ use Rattle.laws.specs.Any.{any}
 use Rattle.laws.specs.Total.{total}
 use Rattle.laws.specs.Masks.{bitAt}
 use Rattle.laws.specs.Tables.{table}
+use Rattle.settings.specs.Rules.{zeroRegister}
 use Rattle.settings.specs.declared.Register.{Register}
 use Rattle.counting.specs.declared.Bill.{Bill}
 
 -- bill register j of a configuration
 abbrev pub registerAt : List Register → ℕ → Register
-registerAt registers j = getD registers j (record { sum = 0; rule = 0 })
+registerAt registers j = getD registers j zeroRegister
 
 -- bill j of a state
 abbrev pub billAt : List Bill → ℕ → Bill
@@ -25,17 +26,9 @@ billAt bills j = getD bills j (record { amount = 0; closed = 0; stamp = 0; reset
 abbrev pub unitAt : List ℕ → ℕ → ℕ
 unitAt units i = getD units i 0
 
--- the units of an input that is named, none of another
-abbrev pub partOf : Bool → ℕ → ℕ
-partOf on units = if on then units else 0
-
--- what input i adds to a sum
-unfoldable pub namedPart : ℕ → (ℕ → ℕ) → ℕ → ℕ
-namedPart sum units i = partOf (bitAt sum i) (units i)
-
 -- the units of the inputs that a sum names: bit i names input i
 unfoldable pub sumOf : ℕ → (ℕ → ℕ) → ℕ
-sumOf sum units = total 16 (namedPart sum units)
+sumOf sum units = total 16 (λ i. if bitAt sum i then units i else 0)
 
 -- the units of sum k
 unfoldable pub sumAt : List ℕ → List ℕ → ℕ → ℕ
@@ -61,27 +54,13 @@ dueOf register map sums = if feeds register map then registerUnits register sums
 abbrev pub fillsUp : ℕ → ℕ → Bool
 fillsUp amount due = ltb 0 due && ltb 999_999_999 (amount + due)
 
--- the units would take the register past 999,999,999
-unfoldable pub fills : Bill → ℕ → Bool
-fills bill due = fillsUp (bill .amount) due
+-- a bill with another open amount
+abbrev pub withAmount : Bill → ℕ → Bill
+withAmount bill amount = record { amount = amount; closed = bill .closed; stamp = bill .stamp; reset = bill .reset }
 
--- the register with the units booked; a full one is left as it is, since the whole sample is refused
+-- the bill with the units booked; a full one is left as it is, since the whole sample is refused
 unfoldable pub billed : Bill → ℕ → Bill
-billed bill due =
-    if fills bill due then bill
-    else record { amount = bill .amount + due; closed = bill .closed; stamp = bill .stamp; reset = bill .reset }
-
--- the units that a sample books to register j
-unfoldable pub dueAt : List Register → ℕ → List ℕ → ℕ → ℕ
-dueAt registers map sums j = dueOf (registerAt registers j) map sums
-
--- register j would be full
-unfoldable pub fillsAt : List Register → List Bill → ℕ → List ℕ → ℕ → Bool
-fillsAt registers bills map sums j = fills (billAt bills j) (dueAt registers map sums j)
-
--- bill j with its units booked
-unfoldable pub billedAt : List Register → List Bill → ℕ → List ℕ → ℕ → Bill
-billedAt registers bills map sums j = billed (billAt bills j) (dueAt registers map sums j)
+billed bill due = if fillsUp (bill .amount) due then bill else withAmount bill (bill .amount + due)
 
 -- what a sample books: FULL in any register, and all bills with their units
 pub record Booked : Type 0 where
@@ -91,4 +70,5 @@ pub record Booked : Type 0 where
 -- FULL in any register, and all bills with their units booked
 unfoldable pub bookedOf : List Register → List Bill → ℕ → List ℕ → Booked
 bookedOf registers bills map sums =
-    record { full = any 16 (fillsAt registers bills map sums); bills = table 16 (billedAt registers bills map sums) }
+    let due : ℕ → ℕ = λ j. dueOf (registerAt registers j) map sums in
+    record { full = any 16 (λ j. fillsUp (billAt bills j .amount) (due j)); bills = table 16 (λ j. billed (billAt bills j) (due j)) }

@@ -10,115 +10,79 @@ use Rattle.laws.specs.Masks.{maskOf, bitAt}
 use Rattle.laws.specs.Tables.{table}
 use Rattle.settings.specs.declared.Input.{Input}
 use Rattle.settings.specs.declared.Register.{Register}
-use Rattle.counting.specs.Filter.{inputAt, lineAt, nextRun, fitting, oneMore}
+use Rattle.counting.specs.Filter.{inputAt, lineAt, nextRun, fits, oneMore}
 use Rattle.counting.specs.Units.{Credits, unitsOf, credited}
-use Rattle.counting.specs.Bills.{registerAt, billAt, unitAt, partOf, registerUnits, feeds, fillsUp}
+use Rattle.counting.specs.Bills.{registerAt, billAt, unitAt, registerUnits, feeds, fillsUp, withAmount}
 use Rattle.counting.specs.declared.Line.{Line}
 use Rattle.counting.specs.declared.Bill.{Bill}
 
--- input i has a kind
-abbrev pub kindAt : List Input → ℕ → ℕ → Bool
-kindAt inputs kind i = eqb (inputAt inputs i .kind) kind
-
 -- the mask of the inputs of a kind
 unfoldable pub kindMask : List Input → ℕ → ℕ
-kindMask inputs kind = maskOf 16 (kindAt inputs kind)
-
--- line i has a run
-abbrev pub runningAt : List Line → ℕ → Bool
-runningAt lines i = ltb 0 (lineAt lines i .run)
+kindMask inputs kind = maskOf 16 (λ i. eqb (inputAt inputs i .kind) kind)
 
 -- the mask of the lines with a run
 unfoldable pub runningLines : List Line → ℕ
-runningLines lines = maskOf 16 (runningAt lines)
+runningLines lines = maskOf 16 (λ i. ltb 0 (lineAt lines i .run))
 
 -- a line with another run
 abbrev pub withRun : Line → ℕ → Line
 withRun line run = record { run = run; rejected = line .rejected; remainder = line .remainder; units = line .units }
 
--- line i after a sample in which it is active: its run goes on
-unfoldable pub advancedAt : List Line → ℕ → ℕ → Line
-advancedAt lines mask i = if bitAt mask i then withRun (lineAt lines i) (nextRun (lineAt lines i .run) true) else lineAt lines i
-
--- all lines after a sample, given the mask of active ones
+-- all lines after a sample, given the mask of active ones: their runs go on
 unfoldable pub advancedLines : List Line → ℕ → List Line
-advancedLines lines mask = table 16 (advancedAt lines mask)
+advancedLines lines mask = table 16 (λ i. if bitAt mask i then withRun (lineAt lines i) (nextRun (lineAt lines i .run) true) else lineAt lines i)
 
 -- a line on which a run ends: an accepted impulse is credited, any other run is counted as rejected
 unfoldable pub settled : Input → Line → Line
 settled input line =
-    if fitting input line then withRun (credited input line) 0
-    else record { run = 0; rejected = oneMore (line .rejected) true; remainder = line .remainder; units = line .units }
+    if fits input (line .run) then withRun (credited input line) 0
+    else record { run = 0; rejected = oneMore (line .rejected); remainder = line .remainder; units = line .units }
 
 -- the units that it brings
 unfoldable pub settledUnits : Input → Line → ℕ
-settledUnits input line = if fitting input line then unitsOf input (line .remainder) else 0
-
--- line i, on which a run ends if the mask says so
-unfoldable pub settledAt : List Input → List Line → ℕ → ℕ → Line
-settledAt inputs lines ending i = if bitAt ending i then settled (inputAt inputs i) (lineAt lines i) else lineAt lines i
-
--- the units that it brings
-unfoldable pub settledUnitsAt : List Input → List Line → ℕ → ℕ → ℕ
-settledUnitsAt inputs lines ending i = if bitAt ending i then settledUnits (inputAt inputs i) (lineAt lines i) else 0
+settledUnits input line = if fits input (line .run) then unitsOf input (line .remainder) else 0
 
 -- all lines with the runs of a mask ended, and the units that these bring
 unfoldable pub settledOf : List Input → List Line → ℕ → Credits
 settledOf inputs lines ending =
-    record { lines = table 16 (settledAt inputs lines ending); units = table 16 (settledUnitsAt inputs lines ending) }
+    record {
+      lines = table 16 (λ i. if bitAt ending i then settled (inputAt inputs i) (lineAt lines i) else lineAt lines i);
+      units = table 16 (λ i. if bitAt ending i then settledUnits (inputAt inputs i) (lineAt lines i) else 0);
+    }
 
 -- the units of the inputs of a mask, none of the others
 unfoldable pub maskedUnits : List ℕ → ℕ → List ℕ
-maskedUnits units mask = table 16 (λ i. partOf (bitAt mask i) (unitAt units i))
+maskedUnits units mask = table 16 (λ i. if bitAt mask i then unitAt units i else 0)
 
 -- the units of input i added to each sum that names it
 unfoldable pub addedUnits : List ℕ → List ℕ → ℕ → ℕ → List ℕ
-addedUnits totals sums i units = table 8 (λ k. unitAt totals k + partOf (bitAt (getD sums k 0) i) units)
+addedUnits totals sums i units = table 8 (λ k. unitAt totals k + (if bitAt (getD sums k 0) i then units else 0))
 
 -- totals to which the units of one more input can be added in 64 bits
 abbrev pub Below : List ℕ → Type 0
 Below totals = (k : ℕ) → unitAt totals k ≤ 68_719_476_720
 
--- register j is in use, and has no rule, or its rule is in force
-abbrev pub fedBy : List Register → ℕ → ℕ → Bool
-fedBy registers map j = ltb (registerAt registers j .sum) 8 && feeds (registerAt registers j) map
-
--- the mask of the registers that units go to
+-- the mask of the registers that units go to: each is in use, and has no rule, or its rule is in force
 unfoldable pub fedRegisters : List Register → ℕ → ℕ
-fedRegisters registers map = maskOf 16 (fedBy registers map)
+fedRegisters registers map = maskOf 16 (λ j. ltb (registerAt registers j .sum) 8 && feeds (registerAt registers j) map)
 
 -- what a sample books to register j, given the mask of the registers that it feeds
 unfoldable pub fedAt : List Register → ℕ → List ℕ → ℕ → ℕ
-fedAt registers fed sums j = partOf (bitAt fed j) (registerUnits (registerAt registers j) sums)
-
--- amount j would be too large
-unfoldable pub fullAt : List Register → List ℕ → ℕ → List ℕ → ℕ → Bool
-fullAt registers amounts fed sums j = fillsUp (unitAt amounts j) (fedAt registers fed sums j)
+fedAt registers fed sums j = if bitAt fed j then registerUnits (registerAt registers j) sums else 0
 
 -- some amount would be too large
 unfoldable pub someFull : List Register → List ℕ → ℕ → List ℕ → Bool
-someFull registers amounts fed sums = any 16 (fullAt registers amounts fed sums)
-
--- amount j with its units booked
-unfoldable pub bookedAt : List Register → List ℕ → ℕ → List ℕ → ℕ → ℕ
-bookedAt registers amounts fed sums j = unitAt amounts j + fedAt registers fed sums j
+someFull registers amounts fed sums = any 16 (λ j. fillsUp (unitAt amounts j) (fedAt registers fed sums j))
 
 -- the amounts with their units booked; where one would be too large, as they were: the whole sample is refused
 unfoldable pub amountsBooked : List Register → List ℕ → ℕ → List ℕ → List ℕ
-amountsBooked registers amounts fed sums = if someFull registers amounts fed sums then amounts else table 16 (bookedAt registers amounts fed sums)
+amountsBooked registers amounts fed sums =
+    if someFull registers amounts fed sums then amounts else table 16 (λ j. unitAt amounts j + fedAt registers fed sums j)
 
 -- the open amounts of the bills, as numbers
 unfoldable pub amountsOf : List Bill → List ℕ
 amountsOf bills = table 16 (λ j. billAt bills j .amount)
 
--- a bill with another open amount
-abbrev pub withAmount : Bill → ℕ → Bill
-withAmount bill amount = record { amount = amount; closed = bill .closed; stamp = bill .stamp; reset = bill .reset }
-
--- bill j with its open amount out of a list of numbers
-unfoldable pub withAmountAt : List Bill → List ℕ → ℕ → Bill
-withAmountAt bills amounts j = withAmount (billAt bills j) (unitAt amounts j)
-
 -- the bills with their open amounts out of a list of numbers
 unfoldable pub withAmounts : List Bill → List ℕ → List Bill
-withAmounts bills amounts = table 16 (withAmountAt bills amounts)
+withAmounts bills amounts = table 16 (λ j. withAmount (billAt bills j) (unitAt amounts j))

@@ -8,12 +8,13 @@ use lib.ListN.{getD}
 use Rattle.laws.specs.If.{if_then_else_}
 use Rattle.laws.specs.Masks.{maskOf, bitAt}
 use Rattle.laws.specs.Tables.{table}
+use Rattle.settings.specs.Rules.{zeroInput}
 use Rattle.settings.specs.declared.Input.{Input}
 use Rattle.counting.specs.declared.Line.{Line}
 
 -- input i of a configuration
 abbrev pub inputAt : List Input → ℕ → Input
-inputAt inputs i = getD inputs i (record { kind = 0; shortest = 0; longest = 0; numerator = 0; denominator = 0 })
+inputAt inputs i = getD inputs i zeroInput
 
 -- line i of a state
 abbrev pub lineAt : List Line → ℕ → Line
@@ -35,35 +36,23 @@ ends line on = not on && ltb 0 (line .run)
 abbrev pub fits : Input → ℕ → Bool
 fits input run = leb (input .shortest) run && leb run (input .longest)
 
--- the line's run is one
-abbrev pub fitting : Input → Line → Bool
-fitting input line = fits input (line .run)
-
 -- an impulse is accepted with this sample
 unfoldable pub accepted : Input → Line → Bool → Bool
-accepted input line on = ends line on && fitting input line
+accepted input line on = ends line on && fits input (line .run)
 
 -- one more impulse rejected, held at 65,535
-abbrev pub oneMore : ℕ → Bool → ℕ
-oneMore count on = if on then (if ltb count 65_535 then count + 1 else count) else count
+abbrev pub oneMore : ℕ → ℕ
+oneMore count = if ltb count 65_535 then count + 1 else count
 
 -- the line after the filter: its run, and its rejected impulses
 unfoldable pub filtered : Input → Line → Bool → Line
 filtered input line on =
     record {
       run = nextRun (line .run) on;
-      rejected = oneMore (line .rejected) (ends line on && not (fitting input line));
+      rejected = if ends line on && not (fits input (line .run)) then oneMore (line .rejected) else line .rejected;
       remainder = line .remainder;
       units = line .units;
     }
-
--- line i after the filter, given the mask of active lines
-unfoldable pub filteredAt : List Input → List Line → ℕ → ℕ → Line
-filteredAt inputs lines mask i = filtered (inputAt inputs i) (lineAt lines i) (bitAt mask i)
-
--- whether line i brings an impulse, given the mask of active lines
-unfoldable pub acceptedAt : List Input → List Line → ℕ → ℕ → Bool
-acceptedAt inputs lines mask i = accepted (inputAt inputs i) (lineAt lines i) (bitAt mask i)
 
 -- all lines after a sample, and the mask of its impulses
 pub record Stepped : Type 0 where
@@ -73,4 +62,7 @@ pub record Stepped : Type 0 where
 -- all lines after the filter, and the mask of the impulses
 unfoldable pub steppedOf : List Input → List Line → ℕ → Stepped
 steppedOf inputs lines mask =
-    record { lines = table 16 (filteredAt inputs lines mask); impulses = maskOf 16 (acceptedAt inputs lines mask) }
+    record {
+      lines = table 16 (λ i. filtered (inputAt inputs i) (lineAt lines i) (bitAt mask i));
+      impulses = maskOf 16 (λ i. accepted (inputAt inputs i) (lineAt lines i) (bitAt mask i));
+    }

@@ -7,27 +7,20 @@ use lib.ListN.{getD}
 use Rattle.laws.specs.If.{if_then_else_}
 use Rattle.laws.specs.Tables.{table}
 use Rattle.laws.specs.SignedTotal.{totalℤ}
+use Rattle.settings.specs.Rules.{zeroSlot}
 use Rattle.settings.specs.declared.Config.{Config}
 use Rattle.settings.specs.declared.Slot.{Slot}
 use Rattle.counting.specs.Filter.{lineAt}
 use Rattle.counting.specs.Bills.{unitAt, sumAt}
 use Rattle.counting.specs.declared.Line.{Line}
 
--- level 0 of input i: its units of the period
-unfoldable pub level0At : List Line → ℕ → ℕ
-level0At lines i = lineAt lines i .units
-
--- level 0 of all inputs
+-- level 0 of all inputs: their units of the period
 unfoldable pub level0 : List Line → List ℕ
-level0 lines = table 16 (level0At lines)
-
--- what sum k adds to a function: coefficient times level 1
-unfoldable pub termAt : List ℤ → List ℕ → ℕ → List ℕ → ℕ → ℤ
-termAt coefficients sums function units k = getD coefficients (function * 8 + k) (pos 0) *ℤ pos (sumAt sums units k)
+level0 lines = table 16 (λ i. lineAt lines i .units)
 
 -- level 2 of a function: the signed sum of coefficient times level 1
 unfoldable pub level2 : List ℤ → List ℕ → ℕ → List ℕ → ℤ
-level2 coefficients sums function units = totalℤ 8 (termAt coefficients sums function units)
+level2 coefficients sums function units = totalℤ 8 (λ k. getD coefficients (function * 8 + k) (pos 0) *ℤ pos (sumAt sums units k))
 
 -- level 0 of an input as a slot shows it; there are sixteen
 unfoldable pub inputValue : ℕ → List ℕ → ℤ
@@ -49,10 +42,6 @@ slotValue c units slot =
     else if eqb (slot .level) 2 then functionValue (c .coefficients) (c .sums) (slot .index) units
     else pos 0
 
--- the value of slot i
-unfoldable pub slotValueAt : Config → List ℕ → ℕ → ℤ
-slotValueAt c units i = slotValue c units (getD (c .slots) i (record { level = 0; index = 0 }))
-
 -- the values of all 16 slots
 unfoldable pub slotValues : Config → List ℕ → List ℤ
-slotValues c units = table 16 (slotValueAt c units)
+slotValues c units = table 16 (λ i. slotValue c units (getD (c .slots) i zeroSlot))

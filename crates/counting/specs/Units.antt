@@ -1,5 +1,4 @@
 -- "An accepted impulse adds the numerator to the input's remainder; whole denominators leave it as units."
-use mathlib.Core.Bool.{Bool}
 use mathlib.Core.List.{List}
 use Prim.Native.Nat.{ℕ, _+_, _/_, _%_}
 use lib.Dec.{ltb, eqb}
@@ -32,22 +31,6 @@ credited input line =
       units = heldSum (line .units) (unitsOf input (line .remainder));
     }
 
--- the line with or without an impulse
-unfoldable pub creditIf : Input → Line → Bool → Line
-creditIf input line on = if on then credited input line else line
-
--- the units that it brings
-unfoldable pub unitsIf : Input → Line → Bool → ℕ
-unitsIf input line on = if on then unitsOf input (line .remainder) else 0
-
--- line i with the impulses of a mask credited
-unfoldable pub creditedAt : List Input → List Line → ℕ → ℕ → Line
-creditedAt inputs lines impulses i = creditIf (inputAt inputs i) (lineAt lines i) (bitAt impulses i)
-
--- the units that line i brings
-unfoldable pub unitsAt : List Input → List Line → ℕ → ℕ → ℕ
-unitsAt inputs lines impulses i = unitsIf (inputAt inputs i) (lineAt lines i) (bitAt impulses i)
-
 -- all lines with their impulses credited, and the units that each brings
 pub record Credits : Type 0 where
   pub lines : List Line
@@ -56,4 +39,7 @@ pub record Credits : Type 0 where
 -- all lines, and the units that each brings
 unfoldable pub creditsOf : List Input → List Line → ℕ → Credits
 creditsOf inputs lines impulses =
-    record { lines = table 16 (creditedAt inputs lines impulses); units = table 16 (unitsAt inputs lines impulses) }
+    record {
+      lines = table 16 (λ i. if bitAt impulses i then credited (inputAt inputs i) (lineAt lines i) else lineAt lines i);
+      units = table 16 (λ i. if bitAt impulses i then unitsOf (inputAt inputs i) (lineAt lines i .remainder) else 0);
+    }

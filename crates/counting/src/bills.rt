@@ -1,16 +1,17 @@
 // Bills: what a sample books to the bill registers.
 use crate::Bill;
-use crate::filter::is_on;
-use crate::filter::with_bit;
 use settings::Register;
+use tariff::bit_at;
+use tariff::with_bit;
 ghost use mathlib.Core.Path.{_≡_};
 ghost use Prim.Native.Nat.{_≤_};
 ghost use lib.ListN.{length};
-ghost use Rattle.counting.specs.Bills.{partOf, sumOf, unitAt, sumsOf, registerUnits, fillsUp};
+ghost use Rattle.laws.specs.If.{if_then_else_};
+ghost use Rattle.counting.specs.Bills.{sumOf, unitAt, sumsOf, registerUnits, fillsUp};
 ghost use Rattle.counting.specs.ByMask.{maskedUnits, Below, addedUnits, fedRegisters, someFull, amountsOf, withAmounts};
 
 fn part(on: bool, units: u32) -> u64
-    ensures { λ r. ⌜ (r ≡ partOf on units) × (r ≤ 4294967295) ⌝ }
+    ensures { λ r. ⌜ (r ≡ (if on then units else 0)) × (r ≤ 4294967295) ⌝ }
 {
     if on {
         return units as u64;
@@ -24,7 +25,7 @@ pub(crate) fn sum_units(sum: u16, units: [u32; 16]) -> u64
 {
     let mut all: u64 = 0;
     for i in 0..16usize {
-        all += part(is_on(sum, i), units[i]);
+        all += part(bit_at(sum as u32, i), units[i]);
     }
     all
 }
@@ -35,7 +36,7 @@ fn add_units(totals: &mut [u64; 8], sums: [u16; 8], i: usize, units: u32)
     ensures { λ _. ⌜ now (totals .exit) ≡ addedUnits (now (totals .entry)) sums i units ⌝ }
 {
     for k in 0..8usize {
-        totals[k] = totals[k] + part(is_on(sums[k], i), units);
+        totals[k] = totals[k] + part(bit_at(sums[k] as u32, i), units);
     }
 }
 
@@ -68,13 +69,13 @@ pub fn register_units(register: Register, sums: &[u64; 8]) -> u64
 pub fn fed_registers(registers: [Register; 16], map: u16) -> u16
     ensures { λ r. ⌜ r ≡ fedRegisters registers map ⌝ }
 {
-    let mut mask: u16 = 0;
+    let mut mask: u32 = 0;
     for j in 0..16usize {
         let register = registers[j];
-        let on = (register.rule == 255) | tariff::bit_at(map as u32, register.rule);
+        let on = (register.rule == 255) | bit_at(map as u32, register.rule as usize);
         mask = with_bit(mask, j, (register.sum < 8) & on);
     }
-    mask
+    mask as u16
 }
 
 // Whether the units would take a register past 999,999,999. A register that gets none is not asked.

@@ -1,32 +1,10 @@
 // The filter of the lines: each keeps its run of active samples, lent and advanced in place, and a run that ends is judged.
 use crate::Line;
 use settings::Input;
+use tariff::with_bit;
 ghost use mathlib.Core.Path.{_≡_};
-ghost use mathlib.Core.Bool.{true};
-ghost use Prim.Native.Nat.{_<_, _^_};
-ghost use Rattle.laws.specs.Masks.{withBit, bitAt};
 ghost use Rattle.counting.specs.Filter.{nextRun, oneMore, fits};
 ghost use Rattle.counting.specs.ByMask.{kindMask, runningLines};
-
-// Whether a bit of a mask is on.
-pub(crate) fn is_on(mask: u16, place: usize) -> bool
-    ensures { λ r. ⌜ r ≡ bitAt mask place ⌝ }
-{
-    if place >= 16 {
-        return false;
-    }
-    (mask >> place) % 2 == 1
-}
-
-pub(crate) fn with_bit(mask: u16, place: usize, on: bool) -> u16
-    requires { ⌜ (place < 16) × (mask < 2 ^ place) ⌝ }
-    ensures { λ r. ⌜ r ≡ withBit mask place on ⌝ }
-{
-    if on {
-        return (1u16 << place) + mask;
-    }
-    mask
-}
 
 // The run after a sample, counted to 256 and held there.
 fn next_run(run: u32, on: bool) -> u32
@@ -51,7 +29,7 @@ pub fn advance(run: &mut u32, on: bool)
 
 // One more impulse rejected, held at 65,535.
 pub(crate) fn one_more(count: u16) -> u16
-    ensures { λ r. ⌜ r ≡ oneMore count true ⌝ }
+    ensures { λ r. ⌜ r ≡ oneMore count ⌝ }
 {
     if count < 65535 {
         return count + 1;
@@ -70,22 +48,22 @@ pub(crate) fn accepts(input: Input, run: u32) -> bool
 pub fn kind_mask(inputs: [Input; 16], kind: u8) -> u16
     ensures { λ r. ⌜ r ≡ kindMask inputs kind ⌝ }
 {
-    let mut mask: u16 = 0;
+    let mut mask: u32 = 0;
     for i in 0..16usize {
         let input = inputs[i];
         mask = with_bit(mask, i, input.kind == kind);
     }
-    mask
+    mask as u16
 }
 
 // The lines with a run.
 pub fn running_lines(lines: [Line; 16]) -> u16
     ensures { λ r. ⌜ r ≡ runningLines lines ⌝ }
 {
-    let mut mask: u16 = 0;
+    let mut mask: u32 = 0;
     for i in 0..16usize {
         let line = lines[i];
         mask = with_bit(mask, i, 0 < line.run);
     }
-    mask
+    mask as u16
 }

@@ -11,37 +11,37 @@ use lib.IntN.{ℤ}
 use lib.ListN.{length, getD, set as setList, length-set, length-replicate, getD-replicate}
 use lib.Seq.{getD-set-same, getD-set-other}
 use borrow.Author.Tests.{ltb-true, ltb-false, leb-true, leb-false, eq-eqb, ne-eqb, eqb-true, eqb-false}
+use Rattle.laws.specs.Answers.{replyTo}
 use Rattle.laws.specs.If.{if_then_else_}
 use Rattle.laws.proofs.Tests.{by-test}
 use Rattle.laws.specs.Any.{any}
 use Rattle.laws.proofs.Any.{any-cong}
 use Rattle.laws.proofs.Total.{total-cong}
 use Rattle.laws.specs.Masks.{bit, bitAt}
-use Rattle.laws.specs.Tables.{table}
 use Rattle.laws.proofs.Tables.{table-at}
 use Rattle.calendar.specs.Moments.{momentOf}
 use Rattle.settings.specs.declared.Config.{Config}
 use Rattle.settings.specs.declared.Input.{Input}
-use Rattle.counting.specs.Filter.{inputAt, lineAt, nextRun, accepted, filtered, oneMore}
-use Rattle.counting.specs.Units.{unitsOf, remainderOf, credited, creditIf}
-use Rattle.counting.specs.Bills.{billAt, partOf, namedPart, sumOf, fills, fillsAt, bookedOf}
+use Rattle.counting.specs.Filter.{inputAt, lineAt, nextRun, accepted, oneMore}
+use Rattle.counting.specs.Bills.{billAt, sumOf, bookedOf}
 use Rattle.sampling.specs.Periods.{multiple, begunAnew, tickOf}
 use Rattle.sampling.specs.Samples.{activeAt, bookingOf, bookingOn, countedOf, clockEnd, sampleOf}
-use Rattle.recorder.specs.Clock.{setTo, setOf, closedBill, closedBillAt, resetOf}
+use Rattle.recorder.specs.Clock.{setTo, setOf, closedBill, resetOf}
 use Rattle.recorder.specs.Meters.{readingOf}
-use Rattle.recorder.specs.Calls.{freshState, replyTo}
+use Rattle.recorder.specs.Calls.{freshState}
 use Rattle.recorder.specs.History.{Call, sample, set as set-call, reading, reset, afterAll}
 use Rattle.registers.specs.Fleet.{meterAt}
 use Rattle.counting.specs.declared.Line.{Line}
 use Rattle.counting.specs.declared.Bill.{Bill}
 use Rattle.sampling.specs.declared.State.{State}
 use Rattle.calendar.proofs.Moments.{dated-or-not}
-use Rattle.recorder.proofs.Sound.{config-stays}
+use Rattle.counting.proofs.Lines.{passed, brings, passed-run, passed-rejected, passed-remainder}
+use Rattle.recorder.proofs.Sound.{cleared-at, config-stays}
 use Rattle.demands.specs.Account.{Entry, took, ended, cleared as cleared-entry, heard, Sample, Account, runOf, endsRun, inRange, sampleOn, always, impulsesOf, rejectedIn, whole, inUse, booksAt, feeding, amountOf, lastReading, nextSample, dueTo, overfull, numberOfSample, numberOfDate, numberOfReading, stepped, counted, withCall, accountOf}
 use Rattle.demands.specs.State.{billIn, meterIn}
 use Rattle.demands.specs.Demand2.{reached, AnswersOfHistory}
 use Rattle.demands.proofs.Units.{leftOver, units-step, left-step}
-use Rattle.demands.proofs.Keeps.{bookedState, due, due-is, due-none, fillsOn, line-after, bill-after, cleared-line}
+use Rattle.demands.proofs.Keeps.{bookedState, due, due-is, due-none, fillsOn, line-after, bill-after}
 
 -- a line has the run, the rejected impulses and the remainder of its input's journal
 pub record LineAgrees (c : Config) (journal : List Entry) (i : ℕ) (line : Line) : Type 0 where
@@ -66,26 +66,10 @@ next-run : (run : ℕ) (on : Bool) → nextRun run on ≡ (if on then min 256 (r
 next-run run true = by-test (ltb run 256) (λ t. rw t (omega (arith, ltb-true run 256 t))) (λ f. rw f (omega (arith, ltb-false run 256 f)))
 next-run run false = refl
 
-next-rejected : (n : ℕ) (on : Bool) → oneMore (min 65_535 n) on ≡ min 65_535 (n + bit on)
+next-rejected : (n : ℕ) (on : Bool) → (if on then oneMore (min 65_535 n) else min 65_535 n) ≡ min 65_535 (n + bit on)
 next-rejected n true =
     by-test (ltb (min 65_535 n) 65_535) (λ t. rw t (omega (arith, ltb-true (min 65_535 n) 65_535 t))) (λ f. rw f (omega (arith, ltb-false (min 65_535 n) 65_535 f)))
 next-rejected n false = omega arith
-
--- an impulse leaves run and rejected count
-credit-run : (x : Input) (line : Line) (on : Bool) → creditIf x line on .run ≡ line .run
-unfolding creditIf credited
-credit-run x line true = refl
-credit-run x line false = refl
-
-credit-rejected : (x : Input) (line : Line) (on : Bool) → creditIf x line on .rejected ≡ line .rejected
-unfolding creditIf credited
-credit-rejected x line true = refl
-credit-rejected x line false = refl
-
-credit-remainder : (x : Input) (line : Line) (on : Bool) → creditIf x line on .remainder ≡ (if on then remainderOf x (line .remainder) else line .remainder)
-unfolding creditIf credited
-credit-remainder x line true = refl
-credit-remainder x line false = refl
 
 -- a sample after a journal
 module _ (c : Config) (journal : List Entry) (bits second i : ℕ) (line : Line) (old : LineAgrees c journal i line) where
@@ -95,20 +79,18 @@ module _ (c : Config) (journal : List Entry) (bits second i : ℕ) (line : Line)
   same-impulse = rw (old .run)
 
   -- and each of them brings the account's units
-  pub same-units : (if accepted (inputAt (c .inputs) i) line (activeAt (c .inputs) bits i) then unitsOf (inputAt (c .inputs) i) (line .remainder) else 0)
+  pub same-units : brings (inputAt (c .inputs) i) line (activeAt (c .inputs) bits i)
       ≡ sampleOn c bits second journal (whole c journal) .units i
   same-units = rw (same-impulse, old .remainder) (units-step (inputAt (c .inputs) i) (impulsesOf always i (whole c journal)) (endsRun c bits journal i && inRange c i (runOf c i journal)))
 
-  line-agrees : let x = inputAt (c .inputs) i in let on = activeAt (c .inputs) bits i in
-      LineAgrees c (took bits second ∷ journal) i (creditIf x (filtered x line on) (accepted x line on))
-  unfolding filtered
+  line-agrees : LineAgrees c (took bits second ∷ journal) i (passed (inputAt (c .inputs) i) line (activeAt (c .inputs) bits i))
   line-agrees =
       let x = inputAt (c .inputs) i in
       let on = activeAt (c .inputs) bits i in
       record {
-        run = credit-run x (filtered x line on) (accepted x line on) ∙ (next-run (line .run) on ∙ ap (λ (n : ℕ). if on then min 256 (n + 1) else 0) (old .run));
-        rejected = credit-rejected x (filtered x line on) (accepted x line on) ∙ rw (old .rejected, old .run) (next-rejected (rejectedIn i (whole c journal)) (endsRun c bits journal i && not (inRange c i (runOf c i journal))));
-        remainder = credit-remainder x (filtered x line on) (accepted x line on)
+        run = passed-run x line on ∙ (next-run (line .run) on ∙ ap (λ (n : ℕ). if on then min 256 (n + 1) else 0) (old .run));
+        rejected = passed-rejected x line on ∙ rw (old .rejected, old .run) (next-rejected (rejectedIn i (whole c journal)) (endsRun c bits journal i && not (inRange c i (runOf c i journal))));
+        remainder = passed-remainder x line on
             ∙ rw (same-impulse, old .remainder) (left-step x (impulsesOf always i (whole c journal)) (endsRun c bits journal i && inRange c i (runOf c i journal)));
       }
 
@@ -132,11 +114,11 @@ module _ (c : Config) (s : State) (a : Account) (bits : ℕ) (old : Agrees c s a
 
   -- register j gets the account's units
   due-same : (j : ℕ) → inUse c j ≡ true → due c s bits j ≡ dueTo c j now
-  unfolding sumOf namedPart
+  unfolding sumOf
   due-same j u =
       due-is c s bits j u
       ∙ ap₂ (λ (second units : ℕ). if booksAt c j second then units else 0) (old .clock)
-      (total-cong 16 _ _ (λ i l. ap (partOf (bitAt (feeding c j) i)) (same-units c (a .journal) bits (a .time .second) i (lineAt (s .lines) i) (old .lines i l))))
+      (total-cong 16 _ _ (λ i l. ap (λ (n : ℕ). if bitAt (feeding c j) i then n else 0) (same-units c (a .journal) bits (a .time .second) i (lineAt (s .lines) i) (old .lines i l))))
 
   -- its open amount is the account's
   amount-same : (j : ℕ) → j < 16 → inUse c j ≡ true → billAt (s .bills) j .amount ≡ amountOf c j (a .journal)
@@ -144,7 +126,7 @@ module _ (c : Config) (s : State) (a : Account) (bits : ℕ) (old : Agrees c s a
   amount-same j l u = ap (λ (b : Bill). b .amount) (old .bills j l) ∙ rw u
 
   fills-same : (j : ℕ) → j < 16 → fillsOn c s bits j ≡ overfull c (a .journal) now j
-  unfolding fillsAt fills overfull
+  unfolding overfull
   fills-same j l =
       by-test (inUse c j)
       (λ u. ap₂ (λ (amount n : ℕ). ltb 0 n && ltb 999_999_999 (amount + n)) (amount-same j l u) (due-same j u) ∙ sym (rw u))
@@ -204,7 +186,7 @@ tick-agrees c s a old =
       samples = refl;
       few = omega arith;
       first = refl;
-      lines = λ i l. rw (cleared-line (s .lines) i l) (cleared-agrees c (a .journal) _ (a .time .second + 1) i (lineAt (s .lines) i) (old .lines i l));
+      lines = λ i l. rw (cleared-at (s .lines) i l) (cleared-agrees c (a .journal) _ (a .time .second + 1) i (lineAt (s .lines) i) (old .lines i l));
       bills = λ j l. old .bills j l ∙ sym (ended-bill c (a .journal) _ (a .time .second + 1) j);
       meters = old .meters;
       all-meters = old .all-meters;
@@ -247,7 +229,7 @@ SampleCase c s a bits s′ a′ =
     ⊎ ((bookingOn c s bits .full ≡ false) × (s′ ≡ countedOf c (bookedState c s bits)) × (a′ ≡ counted c (a .time) (longer a bits)))
 
 pub sample-case : (c : Config) (s : State) (a : Account) (bits : ℕ) → Agrees c s a
-    → (replyTo s (sampleOf c s bits) .number ≡ numberOfSample c a bits) × SampleCase c s a bits (replyTo s (sampleOf c s bits) .state) (withCall c a (sample bits))
+    → (replyTo s (sampleOf c s bits) .number ≡ numberOfSample c a bits) × SampleCase c s a bits (replyTo s (sampleOf c s bits) .after) (withCall c a (sample bits))
 unfolding sampleOf numberOfSample withCall
 sample-case c s a bits old =
     by-test (clockEnd s)
@@ -259,7 +241,7 @@ sample-case c s a bits old =
     (λ h. rw (f, g, h, sym (full-same c s a bits old) ∙ h) (refl, inr (refl, refl, refl))))
 
 -- so they agree after it
-sample-agrees : (c : Config) (s : State) (a : Account) (bits : ℕ) → Agrees c s a → Agrees c (replyTo s (sampleOf c s bits) .state) (withCall c a (sample bits))
+sample-agrees : (c : Config) (s : State) (a : Account) (bits : ℕ) → Agrees c s a → Agrees c (replyTo s (sampleOf c s bits) .after) (withCall c a (sample bits))
 sample-agrees c s a bits old =
     ⊎-elim (λ e. rw (e .0, e .1) old)
     (λ e. rw (e .1, e .2) (counted-agrees c (bookedState c s bits) (record { time = a .time; journal = longer a bits }) (booked-agrees c s a bits old (e .0))))
@@ -271,7 +253,7 @@ pub set-number : (c : Config) (s : State) (seconds : ℕ) → replyTo s (setOf c
 unfolding setOf
 set-number c s seconds = ⊎-elim (λ d. rw (d .1)) (λ e. rw e) (dated-or-not seconds)
 
-set-agrees : (c : Config) (s : State) (a : Account) (seconds : ℕ) → Agrees c s a → Agrees c (replyTo s (setOf c s seconds) .state) (withCall c a (set-call seconds))
+set-agrees : (c : Config) (s : State) (a : Account) (seconds : ℕ) → Agrees c s a → Agrees c (replyTo s (setOf c s seconds) .after) (withCall c a (set-call seconds))
 unfolding setOf setTo withCall
 set-agrees c s a seconds old =
     ⊎-elim
@@ -282,7 +264,7 @@ set-agrees c s a seconds old =
       samples = refl;
       few = omega arith;
       first = refl;
-      lines = λ i l. rw (cleared-line (s .lines) i l) (cleared-agrees c (a .journal) 1 (a .time .second) i (lineAt (s .lines) i) (old .lines i l));
+      lines = λ i l. rw (cleared-at (s .lines) i l) (cleared-agrees c (a .journal) 1 (a .time .second) i (lineAt (s .lines) i) (old .lines i l));
       bills = λ j l. old .bills j l ∙ sym (ended-bill c (a .journal) 1 (a .time .second) j);
       meters = old .meters;
       all-meters = old .all-meters;
@@ -316,7 +298,7 @@ unfolding billIn amountOf
 heard-bill c journal stamp meter v status seq j = refl
 
 reading-agrees : (c : Config) (s : State) (a : Account) (meter : ℕ) (v : ℤ) (status seq : ℕ) → Agrees c s a
-    → Agrees c (replyTo s (readingOf c s meter v status seq) .state) (withCall c a (reading meter v status seq))
+    → Agrees c (replyTo s (readingOf c s meter v status seq) .after) (withCall c a (reading meter v status seq))
 unfolding readingOf numberOfReading withCall
 reading-agrees c s a meter v status seq old =
     by-test (ltb 31 meter) (λ t. rw t old)
@@ -340,10 +322,10 @@ reading-agrees c s a meter v status seq old =
 -- A billing reset
 
 reset-bill : (c : Config) (s : State) (a : Account) (j : ℕ) → Agrees c s a → j < 16
-    → billAt (table 16 (closedBillAt (c .registers) (s .bills) (s .clock))) j ≡ billIn c (cleared-entry (a .time .second) ∷ a .journal) j
-unfolding closedBillAt closedBill billIn amountOf
+    → billAt (resetOf c s .bills) j ≡ billIn c (cleared-entry (a .time .second) ∷ a .journal) j
+unfolding resetOf closedBill billIn amountOf
 reset-bill c s a j old l =
-    table-at 16 (closedBillAt (c .registers) (s .bills) (s .clock)) j _ l
+    table-at 16 _ j _ l
     ∙ by-test (inUse c j) (λ u. rw (u, old .bills j l, u, old .clock)) (λ f. rw (f, old .bills j l, f))
 
 reset-agrees : (c : Config) (s : State) (a : Account) → Agrees c s a → Agrees c (resetOf c s) (withCall c a reset)
@@ -387,9 +369,9 @@ fresh-agrees c time =
 
 -- a call on a state, under the configuration that the start gave
 abbrev pub stateAfter : Config → State → Call → State
-stateAfter c s (sample bits) = replyTo s (sampleOf c s bits) .state
-stateAfter c s (set-call seconds) = replyTo s (setOf c s seconds) .state
-stateAfter c s (reading meter v status seq) = replyTo s (readingOf c s meter v status seq) .state
+stateAfter c s (sample bits) = replyTo s (sampleOf c s bits) .after
+stateAfter c s (set-call seconds) = replyTo s (setOf c s seconds) .after
+stateAfter c s (reading meter v status seq) = replyTo s (readingOf c s meter v status seq) .after
 stateAfter c s reset = resetOf c s
 
 one-more : (c : Config) (time : ℕ) (earlier : List Call) (call : Call) → reached c time (call ∷ earlier) .state ≡ stateAfter c (reached c time earlier .state) call

@@ -12,7 +12,7 @@ use Rattle.laws.proofs.Total.{total-cong}
 use Rattle.laws.specs.Masks.{bit, bitAt}
 use Rattle.settings.specs.declared.Config.{Config}
 use Rattle.counting.specs.Filter.{inputAt}
-use Rattle.counting.specs.Bills.{partOf, sumOf}
+use Rattle.counting.specs.Bills.{sumOf}
 use Rattle.demands.specs.Account.{Entry, took, ended, cleared, heard, Sample, runOf, endsRun, inRange, sampleOn, always, impulsesOf, roundedDown, whole, since, bookedIn, booksAt, feeding, amountOf}
 use Rattle.demands.specs.Energy.{wholeUnitsOf}
 use Rattle.demands.specs.Demand3.{ExactlyOne}
@@ -121,7 +121,7 @@ module _ (c : Config) where
       → added chosen (λ j. if booksAt c j second then 1 else 0) 16 ≡ total 16 (λ j. bit (chosen j && booksAt c j second))
   one-chosen chosen second = total-cong 16 _ _ (λ j l. go (chosen j) (booksAt c j second))
     where
-      go : (t on : Bool) → partOf t (if on then 1 else 0) ≡ bit (t && on)
+      go : (t on : Bool) → (if t then if on then 1 else 0 else 0) ≡ bit (t && on)
       go true true = refl
       go true false = refl
       go false on = refl

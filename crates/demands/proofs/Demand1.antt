@@ -13,7 +13,7 @@ use lib.ListN.{length, getD, take, drop}
 use Rattle.laws.proofs.Tests.{by-test, and-left, and-right, and-both, or-right}
 use Rattle.laws.specs.Any.{any}
 use Rattle.laws.proofs.Any.{any-not}
-use Rattle.laws.specs.Answers.{Answer, given, refused}
+use Rattle.laws.specs.Answers.{Answer, given, refused, replyTo}
 use Rattle.laws.specs.Broken.{firstBroken}
 use Rattle.laws.specs.Bytes.{le}
 use Rattle.laws.specs.Each.{Each}
@@ -25,13 +25,12 @@ use Rattle.image.specs.Answers.{marked, imageAnswer, writeAnswer, afterWrite}
 use Rattle.settings.specs.declared.Config.{Config}
 use Rattle.calendar.proofs.Moments.{dated-or-not}
 use Rattle.image.proofs.Found.{value-exactly}
-use Rattle.counting.specs.Bills.{fills, fillsAt, bookedOf}
+use Rattle.counting.specs.Bills.{fillsUp, bookedOf}
 use Rattle.sampling.specs.Samples.{bookingOf, bookingOn, clockEnd, sampleOf, samplesOf}
 use Rattle.recorder.specs.Clock.{setOf}
 use Rattle.recorder.specs.Meters.{classOf, ageOf, readingOf}
-use Rattle.recorder.specs.Calls.{startReply, sampleReply, setReply, readingReply, replyTo}
+use Rattle.recorder.specs.Calls.{startReply, sampleReply, setReply, readingReply}
 use Rattle.recorder.specs.declared.Recorder.{Recorder}
-use Rattle.counting.specs.declared.Bill.{Bill}
 use Rattle.sampling.specs.declared.State.{State}
 use Rattle.registers.specs.Registers.{Group, groups, lookUp, groupOf, replyOf, registerReply}
 use Rattle.registers.proofs.Groups.{none-found}
@@ -148,19 +147,17 @@ any-some (suc n) p e =
     (rest .0, omega arith, rest .2))
 
 -- a register is filled
-full-some : (bill : Bill) (due : ℕ) → fills bill due ≡ true → (0 < due) × (999_999_999 < bill .amount + due)
-unfolding fills
-full-some bill due t =
+full-some : (amount due : ℕ) → fillsUp amount due ≡ true → (0 < due) × (999_999_999 < amount + due)
+full-some amount due t =
     let some = ltb 0 due in
-    let past = ltb 999_999_999 (bill .amount + due) in
+    let past = ltb 999_999_999 (amount + due) in
     (ltb-true _ _ (and-left some past t), ltb-true _ _ (and-right some past t))
 
-full-is : (bill : Bill) (due : ℕ) → 0 < due → 999_999_999 < bill .amount + due → fills bill due ≡ true
-unfolding fills
-full-is bill due some past = and-both _ _ (lt-ltb _ _ some) (lt-ltb _ _ past)
+full-is : (amount due : ℕ) → 0 < due → 999_999_999 < amount + due → fillsUp amount due ≡ true
+full-is amount due some past = and-both _ _ (lt-ltb _ _ some) (lt-ltb _ _ past)
 
 pub samples : (r : Recorder) (bits : ℕ) → Ordered (sampleRefusals r bits) (numbered (sampleReply r bits .number))
-unfolding sampleOf bookingOf bookedOf fillsAt
+unfolding sampleOf bookingOf bookedOf
 samples r bits =
     next 5 0 _ (clockEnd (r .state)) _
     (λ t.
@@ -267,14 +264,14 @@ run-ends c s (bits ∷ more) = go (λ later. run-ends c later more) (sampleOf c 
         rw e (⊎-elim (λ all. inl (ap suc (all .0), all .1)) (λ some. inr (omega (arith, some .0), some .1, some .2)) (rest later))
     go rest (refused n o) e = rw e (inr (omega arith, refused-some c s bits n o e, rw e at (samples (on c s) bits)))
 
-run-leaves : (c : Config) (s : State) (run : List ℕ) → samplesOf c s run .state ≡ samplesOf c s (take (samplesOf c s run .taken) run) .state
+run-leaves : (c : Config) (s : State) (run : List ℕ) → samplesOf c s run .after ≡ samplesOf c s (take (samplesOf c s run .taken) run) .after
 unfolding samplesOf
 run-leaves c s [] = refl
 run-leaves c s (bits ∷ more) = go (λ later. run-leaves c later more) (sampleOf c s bits) refl
   where
-    go : ((later : State) → samplesOf c later more .state ≡ samplesOf c later (take (samplesOf c later more .taken) more) .state)
+    go : ((later : State) → samplesOf c later more .after ≡ samplesOf c later (take (samplesOf c later more .taken) more) .after)
         → (a : Answer State) → sampleOf c s bits ≡ a
-        → samplesOf c s (bits ∷ more) .state ≡ samplesOf c s (take (samplesOf c s (bits ∷ more) .taken) (bits ∷ more)) .state
+        → samplesOf c s (bits ∷ more) .after ≡ samplesOf c s (take (samplesOf c s (bits ∷ more) .taken) (bits ∷ more)) .after
     go rest (given later) e = rw (e, e) (rest later)
     go rest (refused n o) e = rw e
 
@@ -283,7 +280,7 @@ numbers-exact =
     record { images = images; starts = starts; samples = samples; runs = λ r run. run-ends (r .config) (r .state) run; sets = sets; readings = readings; registers = registers; ages = ages; writes = writes }
 
 -- a refused call leaves the state
-reply-leaves : (s : State) (a : Answer State) → (replyTo s a .number ≡ 0 → ⊥) → replyTo s a .state ≡ s
+reply-leaves : (s : State) (a : Answer State) → (replyTo s a .number ≡ 0 → ⊥) → replyTo s a .after ≡ s
 reply-leaves s (given later) h = absurd (h refl)
 reply-leaves s (refused n o) h = refl
 

@@ -4,15 +4,14 @@ use mathlib.Core.List.{List, [], _∷_}
 use Prim.Native.Nat.{ℕ, suc}
 use borrow.Author.Tests.{ne-eqb}
 use lib.ListN.{take}
-use Rattle.laws.specs.Answers.{Answer, given, refused}
+use Rattle.laws.specs.Answers.{Answer, given, refused, replyTo, RunReply}
 use Rattle.tariff.specs.Rules.{forceOf}
 use Rattle.calendar.proofs.Moments.{always-dated, found-is-moment, one-moment}
 use Rattle.tariff.proofs.Laws.{bit-is-rule}
 use Rattle.image.proofs.Laws.{written-is-read, read-is-written}
 use Rattle.settings.specs.declared.Config.{Config}
-use Rattle.sampling.specs.Samples.{sampleOf, Run, samplesOf}
+use Rattle.sampling.specs.Samples.{sampleOf, samplesOf}
 use Rattle.sampling.specs.declared.State.{State}
-use Rattle.recorder.specs.Calls.{replyTo}
 use Rattle.recorder.specs.History.{Call, sample, afterAll}
 use Rattle.recorder.proofs.Sound.{config-stays}
 use Rattle.registers.proofs.Laws.{bytes-as-table, given-first}
@@ -25,11 +24,11 @@ use Rattle.demands.proofs.Shown.{invalid-mark, awake-unmarked, register
 use Rattle.demands.proofs.Demand1.{refused-some}
 
 -- what is said of a run on a state, which the calls have reached
-abbrev Says : Config → ℕ → List Call → List ℕ → Run → Type 0
+abbrev Says : Config → ℕ → List Call → List ℕ → RunReply State → Type 0
 Says c time calls run reply =
     let a = accountOf c time calls in
     (reply .taken ≡ takenIn c a run) × (reply .number ≡ endOf c a run)
-    × (reply .state ≡ reached c time (withSamples (take (takenIn c a run) run) calls) .state)
+    × (reply .after ≡ reached c time (withSamples (take (takenIn c a run) run) calls) .state)
 
 run-says : (c : Config) (time : ℕ) (calls : List Call) (run : List ℕ) → Says c time calls run (samplesOf c (reached c time calls .state) run)
 unfolding samplesOf afterAll accountOf
@@ -45,8 +44,8 @@ run-says c time calls (bits ∷ more) = go (sampleOf c s bits) refl (run-says c 
     number : replyTo s (sampleOf c s bits) .number ≡ numberOfSample c a bits
     number = subst (λ (k : Config). replyTo s (sampleOf k s bits) .number ≡ numberOfSample c a bits) (config-stays c time calls) (answers-of-history c time calls (sample bits))
 
-    moved : replyTo s (sampleOf c s bits) .state ≡ reached c time (sample bits ∷ calls) .state
-    moved = subst (λ (k : Config). replyTo s (sampleOf k s bits) .state ≡ reached c time (sample bits ∷ calls) .state) (config-stays c time calls) refl
+    moved : replyTo s (sampleOf c s bits) .after ≡ reached c time (sample bits ∷ calls) .state
+    moved = subst (λ (k : Config). replyTo s (sampleOf k s bits) .after ≡ reached c time (sample bits ∷ calls) .state) (config-stays c time calls) refl
 
     go : (x : Answer State) → sampleOf c s bits ≡ x → Says c time (sample bits ∷ calls) more (samplesOf c (reached c time (sample bits ∷ calls) .state) more)
         → Says c time calls (bits ∷ more) (samplesOf c s (bits ∷ more))

@@ -12,7 +12,7 @@ use Rattle.settings.specs.Check.{sections}
 use Rattle.settings.specs.declared.Config.{Config}
 use Rattle.sampling.specs.Periods.{multiple}
 use Rattle.counting.specs.Filter.{inputAt}
-use Rattle.counting.specs.Bills.{registerAt, billAt, namedPart, sumOf}
+use Rattle.counting.specs.Bills.{registerAt, billAt, sumOf}
 use Rattle.recorder.specs.History.{Call, sample, set, reading, reset}
 use Rattle.counting.specs.declared.Bill.{Bill}
 use Rattle.demands.specs.Account.{Entry, took, Time, Account, since, booksAt, feeding, impulsesOf, amountOf, answerOf, stepped, counted, entered, withCall, accountOf, journalOf}
@@ -80,7 +80,7 @@ closed-is c time (reset ∷ earlier) j used = rw (closed-is c time earlier j use
 
 -- The first sentence
 pub open-amount : OpenAmount
-unfolding sumOf namedPart amountOf
+unfolding sumOf amountOf
 open-amount c a time calls j used =
     let journal = journalOf c time calls in
     let divides = feeds-divide c a j used in

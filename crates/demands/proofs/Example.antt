@@ -20,11 +20,11 @@ use Rattle.tariff.specs.Daily.{dailyActive}
 use Rattle.tariff.specs.Weekly.{firstHoliday, columnOn, referenceAt, weeklyActive}
 use Rattle.tariff.specs.Seasons.{inSeason, seasonActive}
 use Rattle.tariff.specs.Rules.{applies, inForce, forceMap, forceOf}
-use Rattle.settings.specs.Rules.{noInput, fittedIn, sumGood}
+use Rattle.settings.specs.Rules.{zeroInput, fittedIn, sumGood}
 use Rattle.settings.specs.Check.{sections, firstBad, checked}
 use Rattle.image.proofs.Found.{good-exactly}
 use Rattle.counting.specs.Filter.{inputAt}
-use Rattle.counting.specs.Bills.{namedPart, sumOf}
+use Rattle.counting.specs.Bills.{sumOf}
 use Rattle.sampling.specs.Periods.{multiple}
 use Rattle.sampling.specs.Samples.{activeAt}
 use Rattle.recorder.specs.History.{reading}
@@ -45,7 +45,7 @@ unfolding checked firstBad sections first fittedIn sumGood any bitAt
 is-good = good-exactly twoMakers .0 refl
 
 happened : accountOf twoMakers start calls ≡ account
-unfolding first any total span maskOf bitAt table monthLength yearLength yearDay momentOf dailyActive firstHoliday columnOn referenceAt weeklyActive inSeason seasonActive applies inForce forceMap forceOf namedPart sumOf multiple activeAt booksAt feeding amountOf overfull numberOfSample numberOfReading stepped counted withCall accountOf
+unfolding first any total span maskOf bitAt table monthLength yearLength yearDay momentOf dailyActive firstHoliday columnOn referenceAt weeklyActive inSeason seasonActive applies inForce forceMap forceOf sumOf multiple activeAt booksAt feeding amountOf overfull numberOfSample numberOfReading stepped counted withCall accountOf
 happened = refl
 
 -- a longest run of the example is a byte
@@ -55,7 +55,7 @@ runs-bytes (suc zero) l = omega arith
 runs-bytes (suc (suc zero)) l = omega arith
 runs-bytes (suc (suc (suc i))) l = unused 13 i
   where
-    unused : (n i : ℕ) → inputAt (replicate n noInput) i .longest < 256
+    unused : (n i : ℕ) → inputAt (replicate n zeroInput) i .longest < 256
     unused zero i = omega arith
     unused (suc n) zero = omega arith
     unused (suc n) (suc i) = unused n i
@@ -86,7 +86,7 @@ closed-as : table 8 (λ j. closedOf twoMakers start j calls) ≡ table 8 (λ j. 
 closed-as = table-cong 8 _ _ (λ j l. closed-is twoMakers start calls j (in-use j l) ∙ ap (λ (a : Account). closedIn twoMakers j (a .journal)) happened)
 
 pub numbers : Numbers
-unfolding first any total span maskOf bitAt table monthLength yearLength yearDay momentOf dailyActive firstHoliday columnOn referenceAt weeklyActive inSeason seasonActive applies inForce forceMap forceOf namedPart sumOf multiple activeAt booksAt feeding amountOf overfull numberOfSample numberOfReading stepped counted withCall accountOf productOf totalℤ valueOf stateIn awakeIn fleetIn
+unfolding first any total span maskOf bitAt table monthLength yearLength yearDay momentOf dailyActive firstHoliday columnOn referenceAt weeklyActive inSeason seasonActive applies inForce forceMap forceOf sumOf multiple activeAt booksAt feeding amountOf overfull numberOfSample numberOfReading stepped counted withCall accountOf productOf totalℤ valueOf stateIn awakeIn fleetIn
 numbers =
     record {
       accepted = record { good = is-good; bytes = runs-bytes };
@@ -107,7 +107,7 @@ numbers =
     }
 
 pub needed : Needed
-unfolding first any total span maskOf bitAt table monthLength yearLength yearDay momentOf dailyActive firstHoliday columnOn referenceAt weeklyActive inSeason seasonActive applies inForce forceMap forceOf namedPart sumOf multiple activeAt booksAt feeding amountOf overfull numberOfSample numberOfReading stepped counted withCall accountOf productOf
+unfolding first any total span maskOf bitAt table monthLength yearLength yearDay momentOf dailyActive firstHoliday columnOn referenceAt weeklyActive inSeason seasonActive applies inForce forceMap forceOf sumOf multiple activeAt booksAt feeding amountOf overfull numberOfSample numberOfReading stepped counted withCall accountOf productOf
 needed =
     record {
       few = open-is twoMakers start byDay 2 (in-use 2 (omega arith));

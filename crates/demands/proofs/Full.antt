@@ -25,7 +25,7 @@ use Rattle.settings.specs.declared.Config.{Config}
 use Rattle.settings.specs.declared.Input.{Input}
 use Rattle.image.proofs.Found.{good-exactly}
 use Rattle.counting.specs.Filter.{inputAt}
-use Rattle.counting.specs.Bills.{registerAt, namedPart, sumOf}
+use Rattle.counting.specs.Bills.{registerAt, sumOf}
 use Rattle.sampling.specs.Periods.{multiple}
 use Rattle.sampling.specs.Samples.{activeAt}
 use Rattle.recorder.specs.History.{sample, reset}
@@ -326,7 +326,7 @@ full-used = (omega arith, omega arith)
 -- the values of a period with 30,000,000 units of each input
 minute-values : lastPeriod fullMaker (record { state = 2; stamp = 120; units = table 16 (λ i. 30_000_000) } ∷ [])
     ≡ record { state = 2; stamp = 120; values = pos 30_000_000 ∷ pos 480_000_000 ∷ negsuc 479_999_999 ∷ replicate 13 (pos 0) }
-unfolding table valueOf sumOf namedPart total totalℤ bitAt
+unfolding table valueOf sumOf total totalℤ bitAt
 minute-values = refl
 
 last-minute : reached fullMaker 0 nearlyFull .state .closed

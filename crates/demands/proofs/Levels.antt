@@ -9,24 +9,24 @@ use borrow.Author.Tests.{eqb-true}
 use lib.Dec.{eqb, ltb, leb}
 use lib.IntN.{ℤ}
 use lib.ListN.{length, getD, getD-replicate}
-use Rattle.laws.specs.If.{if_then_else_}
+use Rattle.laws.specs.Answers.{replyTo}
 use Rattle.laws.proofs.Tests.{by-test, and-left}
 use Rattle.laws.specs.Tables.{table}
 use Rattle.laws.proofs.Tables.{table-cong, table-self}
-use Rattle.settings.specs.Rules.{inputGood, fittedIn, slotGood, noSlot}
+use Rattle.settings.specs.Rules.{inputGood, fittedIn, slotGood, zeroSlot}
 use Rattle.settings.specs.Check.{sections}
 use Rattle.settings.specs.declared.Config.{Config}
 use Rattle.settings.specs.declared.Input.{Input}
 use Rattle.settings.specs.declared.Slot.{Slot}
-use Rattle.counting.specs.Filter.{inputAt, lineAt, filtered}
-use Rattle.counting.specs.Units.{unitsOf, heldSum, credited, creditIf}
+use Rattle.counting.specs.Filter.{inputAt, lineAt, accepted}
+use Rattle.counting.specs.Units.{unitsOf, heldSum}
 use Rattle.counting.specs.Bills.{sumAt}
-use Rattle.counting.specs.Levels.{level0At, level0, termAt, level2, inputValue, sumValue, functionValue, slotValue, slotValueAt, slotValues}
+use Rattle.counting.specs.Levels.{level0, level2, inputValue, sumValue, functionValue, slotValue, slotValues}
 use Rattle.sampling.specs.Periods.{multiple, begunAnew, clearedLines, closedAs, stateOf as stateAs, tickOf}
 use Rattle.sampling.specs.Samples.{activeAt, bookingOn, countedOf, sampleOf}
 use Rattle.recorder.specs.Clock.{setTo, setOf, resetOf}
 use Rattle.recorder.specs.Meters.{readingOf}
-use Rattle.recorder.specs.Calls.{freshState, replyTo}
+use Rattle.recorder.specs.Calls.{freshState}
 use Rattle.recorder.specs.History.{Call, sample, set as set-call, reading, reset}
 use Rattle.recorder.specs.Laws.{Good}
 use Rattle.counting.specs.declared.Line.{Line}
@@ -35,14 +35,15 @@ use Rattle.sampling.specs.declared.Meter.{Meter}
 use Rattle.sampling.specs.declared.Period.{Period}
 use Rattle.sampling.specs.declared.State.{State}
 use Rattle.calendar.proofs.Moments.{dated-or-not}
-use Rattle.recorder.proofs.Sound.{config-stays, reached-is-sound}
+use Rattle.counting.proofs.Lines.{passed, brings, passed-units}
+use Rattle.recorder.proofs.Sound.{cleared-at, config-stays, reached-is-sound}
 use Rattle.recorder.proofs.Bounded.{hold-never-acts}
 use Rattle.demands.specs.Account.{Entry, ended, Account, always, impulsesOf, unitsIn, whole, inPeriod, periodsOf, lastReading, stepped, counted, withCall, numberOfReading, accountOf}
 use Rattle.demands.specs.State.{lineIn, billIn, meterIn, valueOf, lastPeriod, stateIn}
 use Rattle.demands.specs.Demand2.{reached, StateOfHistory}
 use Rattle.demands.proofs.Inputs.{no-numerator}
 use Rattle.demands.proofs.Units.{leftOver}
-use Rattle.demands.proofs.Keeps.{bringsAt, bookedState, line-after, cleared-line}
+use Rattle.demands.proofs.Keeps.{bookedState, line-after}
 use Rattle.demands.proofs.Agrees.{Agrees, same-units, longer, booked-agrees, hundredth, sample-case, stateAfter, by-calls, agrees}
 
 -- units of the running period, and the last closed period
@@ -73,7 +74,7 @@ third-part a b false f e = e
 
 -- the recorder's value of a good slot is the account's
 slot-same : (c : Config) (units : List ℕ) (slot : Slot) → slotGood (fittedIn (c .inputs)) slot ≡ true → slotValue c units slot ≡ valueOf c units slot
-unfolding slotValue inputValue sumValue functionValue level2 termAt sumAt valueOf fittedIn
+unfolding slotValue inputValue sumValue functionValue level2 sumAt valueOf fittedIn
 slot-same c units slot good =
     by-test (eqb (slot .level) 0)
     (λ t.
@@ -94,30 +95,28 @@ slot-same c units slot good =
 -- so a period closes with the account's values
 closed-same : (c : Config) → Good c → (journal : List Entry) (lines : List Line) → ((i : ℕ) → i < 16 → lineAt lines i .units ≡ unitsIn i (inPeriod c journal)) → (state stamp : ℕ)
     → closedAs c state stamp lines ≡ lastPeriod c (periodsOf c (ended state stamp ∷ journal))
-unfolding closedAs slotValues slotValueAt level0 level0At sections
+unfolding closedAs slotValues level0 sections
 closed-same c good journal lines same state stamp =
     let units = table 16 (λ i. unitsIn i (inPeriod c journal)) in
     let level : table 16 (λ i. lineAt lines i .units) ≡ units = table-cong 16 _ _ same in
     ap (λ (values : List ℤ). record { state = state; stamp = stamp; values = values })
-    (ap (λ (level : List ℕ). table 16 (λ i. slotValue c level (getD (c .slots) i noSlot))) level
-    ∙ table-cong 16 _ _ (λ i l. slot-same c units (getD (c .slots) i noSlot) (good .1 .1 .1 .1 .0 i l)))
+    (ap (λ (level : List ℕ). table 16 (λ i. slotValue c level (getD (c .slots) i zeroSlot))) level
+    ∙ table-cong 16 _ _ (λ i l. slot-same c units (getD (c .slots) i zeroSlot) (good .1 .1 .1 .1 .0 i l)))
 
 -- A sample
 
-credit-level : (x : Input) (line : Line) (on : Bool) → heldSum (line .units) (unitsOf x (line .remainder)) ≡ line .units + unitsOf x (line .remainder)
-    → creditIf x line on .units ≡ line .units + (if on then unitsOf x (line .remainder) else 0)
-unfolding creditIf credited
-credit-level x line true h = h
-credit-level x line false h = sym (add-zero (line .units))
+passed-level : (x : Input) (line : Line) (on : Bool) → heldSum (line .units) (unitsOf x (line .remainder)) ≡ line .units + unitsOf x (line .remainder)
+    → passed x line on .units ≡ line .units + brings x line on
+passed-level x line on free =
+    passed-units x line on ∙ by-test (accepted x line on) (λ t. rw t free) (λ f. rw f (sym (add-zero (line .units))))
 
 module _ (c : Config) (s : State) (a : Account) (bits : ℕ) (both : Agrees c s a) (old : Closes c s a) (free : Free c s) where
   booked-level : (i : ℕ) → i < 16 → lineAt (bookingOn c s bits .lines) i .units ≡ unitsIn i (inPeriod c (longer a bits))
-  unfolding filtered
   booked-level i l =
       let x = inputAt (c .inputs) i in
       let line = lineAt (s .lines) i in
       ap (λ (y : Line). y .units) (line-after c s bits i l)
-      ∙ (credit-level x (filtered x line (activeAt (c .inputs) bits i)) (bringsAt c s bits i) (free i l)
+      ∙ (passed-level x line (activeAt (c .inputs) bits i) (free i l)
       ∙ rw (old .units i l, same-units c (a .journal) bits (a .time .second) i line (both .lines i l)))
 
   booked-closes : Closes c (bookedState c s bits) (record { time = a .time; journal = longer a bits })
@@ -126,7 +125,7 @@ module _ (c : Config) (s : State) (a : Account) (bits : ℕ) (both : Agrees c s 
 -- the start of a period has no units
 cleared-units : (lines : List Line) (i : ℕ) → i < 16 → lineAt (clearedLines lines) i .units ≡ 0
 unfolding begunAnew
-cleared-units lines i l = ap (λ (y : Line). y .units) (cleared-line lines i l)
+cleared-units lines i l = ap (λ (y : Line). y .units) (cleared-at lines i l)
 
 tick-closes : (c : Config) (s : State) (a : Account) → Good c → Agrees c s a → Closes c s a → Closes c (tickOf c s) (stepped c (a .time) (a .journal))
 unfolding tickOf stepped
@@ -148,7 +147,7 @@ counted-closes c s a good both old =
     (λ f. rw (f, sym (hundredth c s a both) ∙ f) (record { units = old .units; closed = old .closed }))
 
 sample-closes : (c : Config) (s : State) (a : Account) (bits : ℕ) → Good c → Agrees c s a → Closes c s a → Free c s
-    → Closes c (replyTo s (sampleOf c s bits) .state) (withCall c a (sample bits))
+    → Closes c (replyTo s (sampleOf c s bits) .after) (withCall c a (sample bits))
 sample-closes c s a bits good both old free =
     ⊎-elim (λ e. rw (e .0, e .1) old)
     (λ e.
@@ -158,7 +157,7 @@ sample-closes c s a bits good both old free =
 
 -- The other calls
 
-set-closes : (c : Config) (s : State) (a : Account) (seconds : ℕ) → Good c → Agrees c s a → Closes c s a → Closes c (replyTo s (setOf c s seconds) .state) (withCall c a (set-call seconds))
+set-closes : (c : Config) (s : State) (a : Account) (seconds : ℕ) → Good c → Agrees c s a → Closes c s a → Closes c (replyTo s (setOf c s seconds) .after) (withCall c a (set-call seconds))
 unfolding setOf setTo withCall
 set-closes c s a seconds good both old =
     ⊎-elim
@@ -172,7 +171,7 @@ set-closes c s a seconds good both old =
     (dated-or-not seconds)
 
 reading-closes : (c : Config) (s : State) (a : Account) (meter : ℕ) (v : ℤ) (status seq : ℕ) → Closes c s a
-    → Closes c (replyTo s (readingOf c s meter v status seq) .state) (withCall c a (reading meter v status seq))
+    → Closes c (replyTo s (readingOf c s meter v status seq) .after) (withCall c a (reading meter v status seq))
 unfolding readingOf numberOfReading withCall
 reading-closes c s a meter v status seq old =
     by-test (ltb 31 meter) (λ t. rw t old)

@@ -10,7 +10,7 @@ use Rattle.laws.proofs.Bytes.{bytes-drop}
 use Rattle.laws.specs.Runs.{entries}
 use Rattle.calendar.specs.Moments.{momentOf}
 use Rattle.calendar.specs.declared.Moment.{Moment}
-use Rattle.settings.specs.Rules.{noInput}
+use Rattle.settings.specs.Rules.{zeroInput}
 use Rattle.image.specs.Entries.{inputOf}
 use Rattle.image.specs.Image.{decode}
 use Rattle.image.specs.Answers.{imageAnswer, imageConfig}
@@ -24,7 +24,7 @@ use Rattle.demands.specs.Starts.{Accepted, StartIsFresh}
 abbrev ByteRun : Input → Type 0
 ByteRun x = x .longest < 256
 
-one-more : (xs : List Input) (x : Input) → ((i : ℕ) → ByteRun (getD xs i noInput)) → ByteRun x → (i : ℕ) → ByteRun (getD (xs ++ (x ∷ [])) i noInput)
+one-more : (xs : List Input) (x : Input) → ((i : ℕ) → ByteRun (getD xs i zeroInput)) → ByteRun x → (i : ℕ) → ByteRun (getD (xs ++ (x ∷ [])) i zeroInput)
 one-more [] x h k zero = k
 one-more [] x h k (suc i) = omega arith
 one-more (y ∷ xs) x h k zero = h 0
@@ -34,7 +34,7 @@ read-run : (b : List ℕ) → Bytes b → ByteRun (inputOf 1 b)
 unfolding inputOf le
 read-run b bytes = let low = bytes-drop 2 b bytes 0 in omega arith
 
-read-runs : (b : List ℕ) → Bytes b → (n i : ℕ) → ByteRun (getD (entries (inputOf 1) 7 n b) i noInput)
+read-runs : (b : List ℕ) → Bytes b → (n i : ℕ) → ByteRun (getD (entries (inputOf 1) 7 n b) i zeroInput)
 unfolding entries
 read-runs b bytes zero i = omega arith
 read-runs b bytes (suc n) i =

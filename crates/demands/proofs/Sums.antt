@@ -10,8 +10,12 @@ use Rattle.laws.proofs.Tests.{by-test}
 use Rattle.laws.specs.Total.{total}
 use Rattle.laws.proofs.Total.{total-cong, total-zero, total-plus}
 use Rattle.laws.specs.Masks.{bitAt}
-use Rattle.counting.specs.Bills.{partOf, namedPart, sumOf}
+use Rattle.counting.specs.Bills.{sumOf}
 use Rattle.demands.specs.Energy.{productOf}
+
+-- n where it counts, else nothing
+abbrev pub partOf : Bool → ℕ → ℕ
+partOf on n = if on then n else 0
 
 -- f added up over the named places
 abbrev pub added : (ℕ → Bool) → (ℕ → ℕ) → ℕ → ℕ
@@ -19,7 +23,7 @@ added named f n = total n (λ i. partOf (named i) (f i))
 
 -- a sum over the inputs that a mask names
 pub sum-added : (mask : ℕ) (f : ℕ → ℕ) → sumOf mask f ≡ added (bitAt mask) f 16
-unfolding sumOf namedPart
+unfolding sumOf
 sum-added mask f = refl
 
 -- the fractions a i over d i of the named places, added up one by one and multiplied by the product of these d i: s/p + a/d is (s * d + a * p)/(p * d)

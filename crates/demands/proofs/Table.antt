@@ -9,7 +9,7 @@ use Rattle.recorder.specs.Cases as recorder
 use Rattle.recorder.proofs.Cases as recorder-holds
 use Rattle.registers.specs.Cases as registers
 use Rattle.registers.proofs.Cases as registers-holds
-use Rattle.demands.specs.Table.{Case, moment, in-time, booked, aged, Claim, TableHolds}
+use Rattle.demands.specs.Table.{TableCase, moment, in-time, booked, aged, TableClaim, TableHolds}
 
 -- two lists of cases that hold
 both : {A : Type 0} (P : A → Type 0) (xs ys : List A) → Each P xs → Each P ys → Each P (xs ++ ys)
@@ -17,13 +17,13 @@ both P [] ys h k = k
 both P (x ∷ xs) ys h k = (h .0, both P xs ys (h .1) k)
 
 -- the cases of a crate, as cases of the table
-lift : {A : Type 0} (f : A → Case) (xs : List A) → Each (λ x. Claim (f x)) xs → Each Claim (map f xs)
+lift : {A : Type 0} (f : A → TableCase) (xs : List A) → Each (λ x. TableClaim (f x)) xs → Each TableClaim (map f xs)
 lift f [] h = tt
 lift f (x ∷ xs) h = (h .0, lift f xs (h .1))
 
 pub table-holds : TableHolds
 table-holds =
-    both Claim (map moment calendar.cases) (map booked recorder.cases ++ (map in-time tariff.cases ++ map aged registers.cases)) (lift moment calendar.cases calendar-holds.cases-hold)
-    (both Claim (map booked recorder.cases) (map in-time tariff.cases ++ map aged registers.cases) (lift booked recorder.cases recorder-holds.cases-hold)
-    (both Claim (map in-time tariff.cases) (map aged registers.cases) (lift in-time tariff.cases tariff-holds.cases-hold)
-    (lift aged registers.cases registers-holds.cases-hold)))
+    both TableClaim (map moment calendar.momentCases) (map booked recorder.impulseCases ++ (map in-time tariff.tariffCases ++ map aged registers.ageCases)) (lift moment calendar.momentCases calendar-holds.cases-hold)
+    (both TableClaim (map booked recorder.impulseCases) (map in-time tariff.tariffCases ++ map aged registers.ageCases) (lift booked recorder.impulseCases recorder-holds.cases-hold)
+    (both TableClaim (map in-time tariff.tariffCases) (map aged registers.ageCases) (lift in-time tariff.tariffCases tariff-holds.cases-hold)
+    (lift aged registers.ageCases registers-holds.cases-hold)))

@@ -21,7 +21,7 @@ use Rattle.image.specs.Answers.{imageAnswer, writeAnswer, afterWrite}
 use Rattle.settings.specs.declared.Config.{Config}
 use Rattle.counting.specs.Filter.{steppedOf}
 use Rattle.counting.specs.Units.{creditsOf}
-use Rattle.counting.specs.Bills.{billAt, sumsOf, dueAt}
+use Rattle.counting.specs.Bills.{registerAt, billAt, sumsOf, dueOf}
 use Rattle.sampling.specs.Samples.{activeLines}
 use Rattle.recorder.specs.Meters.{ageOf}
 use Rattle.recorder.specs.Calls.{startReply, sampleReply, samplesReply, setReply, readingReply}
@@ -67,7 +67,7 @@ unitsFor r bits j =
     let c = r .config in
     let stepped = steppedOf (c .inputs) (r .state .lines) (activeLines (c .inputs) bits) in
     let units = creditsOf (c .inputs) (stepped .lines) (stepped .impulses) .units in
-    dueAt (c .registers) (forceMapAt (c .program) (r .state .clock)) (sumsOf (c .sums) units) j
+    dueOf (registerAt (c .registers) j) (forceMapAt (c .program) (r .state .clock)) (sumsOf (c .sums) units)
 
 -- "5 CLOCK END: hundredth sample in the last second"; "6 FULL: the sample would take a bill register past 999,999,999"
 abbrev pub sampleRefusals : Recorder → ℕ → List Refusal
@@ -111,7 +111,7 @@ abbrev pub RunEnds : Recorder → List ℕ → Type 0
 RunEnds r run =
     let reply = samplesReply r run in
     ((reply .taken ≡ length run) × (reply .number ≡ 0))
-    ⊎ ((reply .taken < length run) × (reply .number ≡ 0 → ⊥) × Ordered (sampleRefusals (reply .recorder) (getD run (reply .taken) 0)) (numbered (reply .number)))
+    ⊎ ((reply .taken < length run) × (reply .number ≡ 0 → ⊥) × Ordered (sampleRefusals (reply .after) (getD run (reply .taken) 0)) (numbered (reply .number)))
 
 -- each call, on every recorder, ends with its result or with exactly the number that the rules name: "Order: start 1, 2, 3, 4, 9; sample 5, 6; reading 7, 8, 10; register 11, 12, 8, 13. Clock sets can give only 9"
 pub record NumbersExact : Type 0 where
@@ -129,11 +129,11 @@ pub record NumbersExact : Type 0 where
 
 -- "A refused call changes no byte of any buffer lent to it", and nothing in the recorder
 pub record RefusedChangesNothing : Type 0 where
-  pub samples : (r : Recorder) (bits : ℕ) → (sampleReply r bits .number ≡ 0 → ⊥) → sampleReply r bits .recorder ≡ r
-  pub runs : (r : Recorder) (run : List ℕ) → samplesReply r run .recorder ≡ samplesReply r (take (samplesReply r run .taken) run) .recorder
-  pub sets : (r : Recorder) (time : ℕ) → (setReply r time .number ≡ 0 → ⊥) → setReply r time .recorder ≡ r
+  pub samples : (r : Recorder) (bits : ℕ) → (sampleReply r bits .number ≡ 0 → ⊥) → sampleReply r bits .after ≡ r
+  pub runs : (r : Recorder) (run : List ℕ) → samplesReply r run .after ≡ samplesReply r (take (samplesReply r run .taken) run) .after
+  pub sets : (r : Recorder) (time : ℕ) → (setReply r time .number ≡ 0 → ⊥) → setReply r time .after ≡ r
   pub readings : (r : Recorder) (meter : ℕ) (value : ℤ) (status seq : ℕ)
-      → (readingReply r meter value status seq .number ≡ 0 → ⊥) → readingReply r meter value status seq .recorder ≡ r
+      → (readingReply r meter value status seq .number ≡ 0 → ⊥) → readingReply r meter value status seq .after ≡ r
   pub registers : (r : Recorder) (group register : ℕ) (buffer : List ℕ) (n offset : ℕ)
       → registerReply r group register buffer .answer ≡ refused n offset → registerReply r group register buffer .buffer ≡ buffer
   pub writes : (c : Config) (buffer : List ℕ) (n offset : ℕ) → writeAnswer c (length buffer) ≡ refused n offset → afterWrite c buffer ≡ buffer

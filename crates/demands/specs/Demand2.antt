@@ -69,7 +69,7 @@ RunsOfHistory =
     (c : Config) (time : ℕ) (calls : List Call) (run : List ℕ) →
     let reply = samplesReply (reached c time calls) run in
     let taken = takenIn c (accountOf c time calls) run in
-    (reply .taken ≡ taken) × (reply .number ≡ endOf c (accountOf c time calls) run) × (reply .recorder ≡ reached c time (withSamples (take taken run) calls))
+    (reply .taken ≡ taken) × (reply .number ≡ endOf c (accountOf c time calls) run) × (reply .after ≡ reached c time (withSamples (take taken run) calls))
 
 -- each register that is read after a history has the bytes that the account shows, and the rest of the buffer is as it was
 abbrev pub RegistersOfHistory : Type 0

@@ -12,7 +12,7 @@ use Rattle.laws.specs.Total.{total}
 use Rattle.laws.specs.Masks.{bit, bitAt}
 use Rattle.settings.specs.declared.Config.{Config}
 use Rattle.counting.specs.Filter.{inputAt}
-use Rattle.counting.specs.Bills.{registerAt, billAt, partOf}
+use Rattle.counting.specs.Bills.{registerAt, billAt}
 use Rattle.sampling.specs.Samples.{activeAt}
 use Rattle.recorder.specs.History.{Call, sample, set, reading, reset, afterAll, freshStart}
 use Rattle.demands.specs.Account.{Entry, took, ended, cleared, heard, Sample, runOf, endsRun, inRange, whole, since, bookedIn, booksAt, feeding, always, journalOf}
@@ -75,14 +75,14 @@ abbrev pub AmountsAddUp : Type 0
 AmountsAddUp =
     (c : Config) (time : ℕ) (calls : List Call) (k : ℕ) → InUse c k → WithoutRule c k →
     (chosen : ℕ → Bool) → OnSum c (registerAt (c .registers) k .sum) chosen → Each (ExactlyOne c chosen) (since c (journalOf c time calls)) →
-    total 16 (λ j. partOf (chosen j) (openOf c time j calls)) ≡ openOf c time k calls
+    total 16 (λ j. if chosen j then openOf c time j calls else 0) ≡ openOf c time k calls
 
 -- the same where no register without a tariff is on the sum: they add up to all units that the samples since the reset brought to it
 abbrev pub AmountsAreTheSums : Type 0
 AmountsAreTheSums =
     (c : Config) (time : ℕ) (calls : List Call) (sum : ℕ) →
     (chosen : ℕ → Bool) → OnSum c sum chosen → Each (ExactlyOne c chosen) (since c (journalOf c time calls)) →
-    total 16 (λ j. partOf (chosen j) (openOf c time j calls)) ≡ bookedIn always (getD (c .sums) sum 0) (since c (journalOf c time calls))
+    total 16 (λ j. if chosen j then openOf c time j calls else 0) ≡ bookedIn always (getD (c .sums) sum 0) (since c (journalOf c time calls))
 
 -- For a reader who doubts the account's definitions
 

@@ -8,7 +8,7 @@ use lib.ListN.{getD, replicate}
 use Rattle.laws.specs.If.{if_then_else_}
 use Rattle.laws.specs.SignedTotal.{totalℤ}
 use Rattle.laws.specs.Tables.{table}
-use Rattle.settings.specs.Rules.{noSlot}
+use Rattle.settings.specs.Rules.{zeroSlot}
 use Rattle.settings.specs.declared.Config.{Config}
 use Rattle.settings.specs.declared.Slot.{Slot}
 use Rattle.counting.specs.Filter.{inputAt}
@@ -61,7 +61,7 @@ valueOf c units slot =
 -- "level 9 the chosen values of the last closed period with the closing time"; zeros if none was closed
 abbrev pub lastPeriod : Config → List Ended → Period
 lastPeriod c [] = record { state = 0; stamp = 0; values = replicate 16 (pos 0) }
-lastPeriod c (p ∷ earlier) = record { state = p .state; stamp = p .stamp; values = table 16 (λ i. valueOf c (p .units) (getD (c .slots) i noSlot)) }
+lastPeriod c (p ∷ earlier) = record { state = p .state; stamp = p .stamp; values = table 16 (λ i. valueOf c (p .units) (getD (c .slots) i zeroSlot)) }
 
 -- the whole state
 unfoldable pub stateIn : Config → Account → State

@@ -7,23 +7,23 @@ use Rattle.recorder.specs.Cases as recorder
 use Rattle.registers.specs.Cases as registers
 
 -- a case of the table: a moment, a window or season, runs and units and bills, a meter's age
-pub data Case : Type 0 where
-  moment : calendar.Case → Case
-  in-time : tariff.Case → Case
-  booked : recorder.Case → Case
-  aged : registers.Case → Case
+pub data TableCase : Type 0 where
+  moment : calendar.MomentCase → TableCase
+  in-time : tariff.TariffCase → TableCase
+  booked : recorder.ImpulseCase → TableCase
+  aged : registers.AgeCase → TableCase
 
 -- what a case claims
-abbrev pub Claim : Case → Type 0
-Claim (moment case) = calendar.Claim case
-Claim (in-time case) = tariff.Claim case
-Claim (booked case) = recorder.Claim case
-Claim (aged case) = registers.Claim case
+abbrev pub TableClaim : TableCase → Type 0
+TableClaim (moment case) = calendar.MomentClaim case
+TableClaim (in-time case) = tariff.TariffClaim case
+TableClaim (booked case) = recorder.ImpulseClaim case
+TableClaim (aged case) = registers.AgeClaim case
 
 -- lines 1 to 4; 5 to 7; 8 and 9; 10
-abbrev pub tenLines : List Case
-tenLines = map moment calendar.cases ++ (map booked recorder.cases ++ (map in-time tariff.cases ++ map aged registers.cases))
+abbrev pub tenLines : List TableCase
+tenLines = map moment calendar.momentCases ++ (map booked recorder.impulseCases ++ (map in-time tariff.tariffCases ++ map aged registers.ageCases))
 
 -- all lines hold
 abbrev pub TableHolds : Type 0
-TableHolds = Each Claim tenLines
+TableHolds = Each TableClaim tenLines

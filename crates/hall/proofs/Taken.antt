@@ -2,13 +2,13 @@
 use mathlib.Core.List.{List, [], _∷_}
 use Prim.Native.Nat.{ℕ, suc, _≤_, zero-le, suc-le-suc}
 use lib.ListN.{length}
-use Rattle.laws.specs.Answers.{Answer, given, refused}
+use Rattle.laws.specs.Answers.{Answer, given, refused, RunReply}
 use Rattle.settings.specs.declared.Config.{Config}
 use Rattle.sampling.specs.declared.State.{State}
-use Rattle.sampling.specs.Samples.{Run, onward, sampleOf, samplesOf}
+use Rattle.sampling.specs.Samples.{onward, sampleOf, samplesOf}
 
 -- one sample more, if it is taken
-one-more : (s : State) (a : Answer State) (rest : State → Run) (n : ℕ) → ((next : State) → rest next .taken ≤ n) → onward s a rest .taken ≤ suc n
+one-more : (s : State) (a : Answer State) (rest : State → RunReply State) (n : ℕ) → ((next : State) → rest next .taken ≤ n) → onward s a rest .taken ≤ suc n
 one-more s (given next) rest n h = suc-le-suc (h next)
 one-more s (refused m offset) rest n h = zero-le
 

@@ -1,25 +1,20 @@
 -- The answers, test by test: what each return of the code has to show.
-use mathlib.Core.Path.{_≡_, refl, sym, ap, fun-ext, _∙_}
-use mathlib.Core.Bool.{true, false, and-self-left}
+use mathlib.Core.Path.{_≡_, refl, _∙_}
+use mathlib.Core.Bool.{true, false}
 use mathlib.Core.List.{List}
 use Prim.Native.Nat.{ℕ, _≤_, _<_}
-use native.Mathlib.Nat.{le-refl}
 use native.Mathlib.Omega.{arith}
 use borrow.Author.Tests.{eq-eqb, ne-eqb, eqb-true, lt-ltb, le-ltb}
-use lib.Dec.{eqb, ltb}
+use lib.Dec.{eqb}
 use lib.ListN.{length, drop}
 use lib.Seq.{sets, sets-eq}
 use Rattle.laws.proofs.Tests.{by-test}
-use Rattle.laws.specs.Answers.{Answer, given, refused}
+use Rattle.laws.specs.Answers.{given, refused}
 use Rattle.laws.specs.Bytes.{le}
-use Rattle.laws.specs.Masks.{maskOf, bitAt}
-use Rattle.laws.proofs.Masks.{bit-at}
 use Rattle.image.specs.Image.{encode, decode, Counted}
-use Rattle.settings.specs.Rules.{fittedIn}
-use Rattle.settings.specs.Check.{verdictAt, orElse, checked}
-use Rattle.image.specs.Answers.{imageSaid, marked, imageAnswer, imageConfig, orBlank, IsRead, refusedWith, writeAnswer, afterWrite, orKept}
+use Rattle.settings.specs.Check.{checked}
+use Rattle.image.specs.Answers.{imageSaid, marked, imageAnswer, imageConfig, IsRead, refusedWith, writeAnswer, afterWrite}
 use Rattle.settings.specs.declared.Config.{Config}
-use Rattle.settings.specs.declared.Input.{Input}
 use Rattle.image.specs.declared.ImageRead.{ImageRead}
 use Rattle.image.specs.declared.ImageAnswer.{ImageAnswer}
 use Rattle.image.specs.declared.ImageAnswer.the-variants.{Accepted, Length, Mark, Version, Value}

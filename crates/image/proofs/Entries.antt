@@ -1,14 +1,14 @@
 -- Each entry's bytes and its value are one and the same.
-use mathlib.Core.Path.{_≡_, refl, sym, _∙_}
-use mathlib.Core.List.{List, [], _∷_, _++_, append-assoc}
+use mathlib.Core.Path.{_≡_, refl, sym}
+use mathlib.Core.List.{List, _++_, append-assoc}
 use Prim.Native.Nat.{ℕ, _+_, _≤_}
 use native.Mathlib.Omega.{arith}
-use lib.ListN.{length, getD, take, drop, length-append}
+use lib.ListN.{length, take, drop, length-append}
 use lib.Seq.{getD-drop, drop-drop, take-add}
 use mir.Syntax.{w8}
 use mir.Val.{SFits}
 use mir.Facts.{toZ-ofZ, ofZ-toZ}
-use Rattle.laws.specs.Bytes.{Bytes, bytesOf, le}
+use Rattle.laws.specs.Bytes.{Bytes, bytesOf}
 use Rattle.laws.proofs.Bytes.{length-bytesOf, le-bytesOf, bytesOf-le, bytesOf-at, take-firsts}
 use Rattle.laws.proofs.Codec.{Codec, part-after}
 use Rattle.image.specs.Entries.{inputBytes, inputOf, coefficientBytes, coefficientOf, slotBytes, slotOf, windowBytes, windowOf, dateIn, seasonBytes, seasonOf, holidayBytes, holidayOf, ruleBytes, ruleOf, registerBytes, registerIn}

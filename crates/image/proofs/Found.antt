@@ -1,19 +1,17 @@
 -- What a check finds, said of the entries: nothing exactly if all keep their rules, an offset exactly if it is that of the first that does not.
 use mathlib.Core.Path.{_≡_, refl, sym, subst}
-use mathlib.Core.Bool.{Bool, true, false, not}
+use mathlib.Core.Bool.{Bool, false, not}
 use mathlib.Core.List.{List, [], _∷_}
-use Prim.Native.Nat.{ℕ, _+_, _*_, _<_, _≤_}
+use Prim.Native.Nat.{ℕ, _+_, _*_}
 use native.Mathlib.Nat.{le-refl, lt-of-lt-of-le}
-use native.Mathlib.Omega.{arith}
 use borrow.Author.Tests.{lt-ltb, le-ltb, ltb-true, ltb-false, not-true, not-false}
 use lib.Dec.{ltb}
 use Rattle.laws.proofs.Tests.{by-test}
 use Rattle.laws.specs.Each.{Each}
-use Rattle.laws.specs.First.{first}
 use Rattle.laws.proofs.First.{first-is, first-none, first-at, first-before}
 use Rattle.laws.specs.Broken.{firstBroken}
-use Rattle.laws.specs.Answers.{Answer, given, refused}
-use Rattle.settings.specs.Check.{Section, sections, verdictAt, orElse, firstBad, checked, Holds, FirstBadAt, here, later}
+use Rattle.laws.specs.Answers.{given, refused}
+use Rattle.settings.specs.Check.{Section, sections, firstBad, checked, Holds, FirstBadAt, here, later}
 use Rattle.image.specs.Laws.{GoodExactly, ValueExactly, ReadHolds}
 use Rattle.image.proofs.Laws.{never, read-is-good}
 

@@ -1,24 +1,24 @@
 -- The laws of specs/Laws.antt: the image read back and written back.
 use mathlib.Core.Path.{_≡_, refl, sym, ap, _∙_}
-use mathlib.Core.Bool.{Bool, true, false, _&&_}
-use mathlib.Core.List.{List, [], _∷_, _++_, append-nil, append-assoc}
-use Prim.Native.Nat.{ℕ, _+_, _*_, _≤_}
+use mathlib.Core.Bool.{true, _&&_}
+use mathlib.Core.List.{List, [], _++_, append-nil, append-assoc}
+use Prim.Native.Nat.{ℕ, _≤_}
 use native.Mathlib.Omega.{arith}
-use borrow.Author.Tests.{eqb-true, eqb-false, eq-eqb}
+use borrow.Author.Tests.{eqb-true}
 use lib.Dec.{eqb}
-use lib.ListN.{length, take, drop, getD, length-append, length-drop, take-append-drop}
+use lib.ListN.{length, take, drop, getD, length-drop, take-append-drop}
 use lib.Seq.{take-all, take-suc, getD-drop, drop-drop}
 use Rattle.laws.proofs.Tests.{by-test, and-left, and-right}
 use Rattle.laws.specs.Answers.{Answer, given, refused}
 use Rattle.laws.specs.Bytes.{Bytes, bytesOf, le}
-use Rattle.laws.proofs.Bytes.{le-2, bytes-drop, take-firsts}
-use Rattle.laws.specs.Runs.{joined, entries}
+use Rattle.laws.proofs.Bytes.{le-2, take-firsts}
+use Rattle.laws.specs.Runs.{joined}
 use Rattle.laws.proofs.Codec.{part-join, part-after, each-any, section-wide, section-back, forth-at, number}
 use Rattle.tariff.specs.declared.Program.{Program}
 use Rattle.image.specs.Entries.{inputBytes, coefficientBytes, slotBytes, windowBytes, seasonBytes, holidayBytes, ruleBytes, registerBytes}
 use Rattle.image.specs.Image.{headBytes, programBytes, encode, programIn, decode, Counted, CountedProgram, Typed, TypedProgram}
 use Rattle.settings.specs.Check.{checked}
-use Rattle.image.specs.Answers.{marked, imageAnswer, imageConfig, orBlank}
+use Rattle.image.specs.Answers.{marked, imageAnswer, imageConfig}
 use Rattle.image.specs.Laws.{WrittenIsRead, ReadIsWritten, ReadIsGood, OneConfig}
 use Rattle.settings.specs.declared.Config.{Config}
 use Rattle.image.proofs.Entries.{input, coefficient, slot, window, season, holiday, rule, register}

@@ -1,8 +1,8 @@
 -- Stores one after another: those of an input, of the tariff program, and of the whole image.
-use mathlib.Core.Path.{_≡_, refl, ap, _∙_}
-use mathlib.Core.List.{List, [], _∷_, _++_, append-assoc}
+use mathlib.Core.Path.{_≡_, refl}
+use mathlib.Core.List.{List, _++_, append-assoc}
 use Prim.Native.Nat.{ℕ, _+_}
-use lib.ListN.{length, set, length-append}
+use lib.ListN.{length, length-append}
 use lib.Seq.{sets}
 use Rattle.laws.specs.Bytes.{bytesOf}
 use Rattle.laws.proofs.Bytes.{length-bytesOf}

@@ -1,10 +1,10 @@
 -- Writing and then reading, reading and then writing: what the two functions over real values have to show.
 use mathlib.Core.Path.{_≡_, refl, sym, ap, _∙_}
-use mathlib.Core.List.{List, [], _∷_, _++_, append-nil}
+use mathlib.Core.List.{List, [], _∷_, append-nil}
 use Prim.Native.Nat.{ℕ}
 use native.Mathlib.Omega.{arith}
 use lib.Dec.{ltb}
-use lib.ListN.{length, replicate}
+use lib.ListN.{replicate}
 use Rattle.laws.proofs.Tests.{by-test}
 use Rattle.laws.specs.First.{first}
 use Rattle.laws.specs.Broken.{firstBroken}
@@ -12,7 +12,7 @@ use Rattle.laws.specs.Answers.{Answer, given, refused}
 use Rattle.laws.specs.Bytes.{Bytes}
 use Rattle.image.specs.Image.{encode, blankConfig, Counted, Typed}
 use Rattle.settings.specs.Check.{Section, orElse, sections, firstBad, checked}
-use Rattle.image.specs.Answers.{imageSaid, writeSaid, imageAnswer, imageConfig, IsRead, refusedWith, writeAnswer, afterWrite, ComesBack, orZeros}
+use Rattle.image.specs.Answers.{writeSaid, imageAnswer, imageConfig, IsRead, refusedWith, writeAnswer, afterWrite, ComesBack, orZeros}
 use Rattle.settings.specs.declared.Config.{Config}
 use Rattle.image.specs.declared.ImageRead.{ImageRead}
 use Rattle.image.specs.declared.ImageAnswer.the-variants as image

@@ -13,7 +13,7 @@ use Rattle.tariff.specs.declared.Window.{Window}
 use Rattle.tariff.specs.declared.Holiday.{Holiday}
 use Rattle.tariff.specs.declared.Program.{Program}
 use Rattle.image.specs.Entries.{inputBytes, inputOf, coefficientBytes, coefficientOf, slotBytes, slotOf, windowBytes, windowOf, seasonBytes, seasonOf, holidayBytes, holidayOf, ruleBytes, ruleOf, registerBytes, registerIn}
-use Rattle.settings.specs.Rules.{noInput, noSlot, noWindow, noSeason, noHoliday, noRule, noRegister}
+use Rattle.settings.specs.Rules.{zeroInput, zeroSlot, zeroWindow, zeroSeason, zeroHoliday, zeroRule, zeroRegister}
 use Rattle.settings.specs.declared.Input.{Input}
 use Rattle.settings.specs.declared.Config.{Config}
 
@@ -71,11 +71,11 @@ decode b =
 unfoldable pub blankProgram : Program
 blankProgram =
     record {
-      windows = replicate 128 noWindow;
+      windows = replicate 128 zeroWindow;
       weeks = replicate 128 0;
-      seasons = replicate 8 noSeason;
-      holidays = replicate 32 noHoliday;
-      rules = replicate 16 noRule;
+      seasons = replicate 8 zeroSeason;
+      holidays = replicate 32 zeroHoliday;
+      rules = replicate 16 zeroRule;
     }
 
 -- a configuration of zeros
@@ -83,13 +83,13 @@ unfoldable pub blankConfig : Config
 blankConfig =
     record {
       period = 0;
-      inputs = replicate 16 noInput;
+      inputs = replicate 16 zeroInput;
       sums = replicate 8 0;
       coefficients = replicate 32 (pos 0);
-      slots = replicate 16 noSlot;
+      slots = replicate 16 zeroSlot;
       limits = replicate 32 0;
       program = blankProgram;
-      registers = replicate 16 noRegister;
+      registers = replicate 16 zeroRegister;
     }
 
 -- as many entries in each section of the program as the image has

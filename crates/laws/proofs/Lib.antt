@@ -11,6 +11,7 @@ pub mod Masks
 pub mod Counts
 pub mod BitTests
 pub mod Tables
+pub mod Sparse
 pub mod Keys
 pub mod Bytes
 pub mod Signed

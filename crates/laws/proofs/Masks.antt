@@ -153,7 +153,7 @@ mask-ext (suc n) x p h same =
     sym (split x n) ∙ rw (← low, ← same n (le-refl (suc n))) (ap (λ t. t * 2 ^ n + x % 2 ^ n) top)
 
 -- bit i + 1 is bit i of the half
-bit-half : (x i : ℕ) → bitAt x (suc i) ≡ bitAt (x / 2) i
+pub bit-half : (x i : ℕ) → bitAt x (suc i) ≡ bitAt (x / 2) i
 unfolding bitAt
 bit-half x i = rw (← one-add i, ← shr-shr x 1 i)
 
@@ -175,7 +175,7 @@ covered-low x m rest h =
     (λ a. let a0 : x % 2 ≡ 0 = omega (arith, eqb-false (x % 2) 1 a) in rw (a0, zero-min) (eqb-same (rest * 2 + 0) x rest (x / 2) (λ e. omega arith) (λ e. omega arith)))
 
 -- the lowest bit
-bit-low : (x : ℕ) → bitAt x 0 ≡ eqb (x % 2) 1
+pub bit-low : (x : ℕ) → bitAt x 0 ≡ eqb (x % 2) 1
 unfolding bitAt
 bit-low x = rw div-one
 

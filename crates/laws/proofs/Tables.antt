@@ -28,6 +28,13 @@ module _ {A : Type 0} where
   table-at (suc n) f zero d h = refl
   table-at (suc n) f (suc i) d h = table-at n (λ i. f (suc i)) i d (le-of-suc-le-suc h)
 
+  -- past its end there is nothing
+  pub table-past : (n : ℕ) (f : ℕ → A) (i : ℕ) (d : A) → n ≤ i → getD (table n f) i d ≡ d
+  unfolding table
+  table-past zero f i d h = refl
+  table-past (suc n) f zero d h = absurd (not-suc-le-zero h)
+  table-past (suc n) f (suc i) d h = table-past n (λ j. f (suc j)) i d (le-of-suc-le-suc h)
+
   -- functions that agree below n make the same table
   pub table-cong : (n : ℕ) (f g : ℕ → A) → ((i : ℕ) → i < n → f i ≡ g i) → table n f ≡ table n g
   unfolding table
@@ -58,6 +65,14 @@ module _ {A : Type 0} where
   -- a turn that stores v
   pub fill-more : (f : ℕ → A) (n : ℕ) (xs₀ xs : List A) (v : A) → xs ≡ fillTo f n xs₀ → v ≡ f n → set xs n v ≡ fillTo f (n + 1) xs₀
   fill-more f n xs₀ xs v e s = rw (s, e, add-one) (set-fill f n xs₀)
+
+  -- half way an element that has not been reached is as it was
+  pub fill-rest : (f : ℕ → A) (n i : ℕ) (xs : List A) (d : A) → n ≤ i → getD (fillTo f n xs) i d ≡ getD xs i d
+  unfolding fillTo
+  fill-rest f zero i xs d h = refl
+  fill-rest f (suc n) i [] d h = refl
+  fill-rest f (suc n) zero (x ∷ xs) d h = absurd (not-suc-le-zero h)
+  fill-rest f (suc n) (suc i) (x ∷ xs) d h = fill-rest (λ j. f (suc j)) n i xs d (le-of-suc-le-suc h)
 
   -- all the elements
   fill-all : (f : ℕ → A) (n : ℕ) (xs : List A) → length xs ≡ n → fillTo f n xs ≡ table n f

@@ -1,17 +1,16 @@
 -- Laws of numbers (specs/Numbers.antt): turns of the loop that reads one.
-use mathlib.Core.Path.{_≡_, refl, sym, ap, _∙_}
+use mathlib.Core.Path.{_≡_}
 use mathlib.Core.Bool.{Bool, true, false, _&&_}
 use mathlib.Core.List.{List, [], _∷_}
-use Prim.Native.Nat.{ℕ, zero, suc, _+_, _-_, _*_, _≤_, _<_}
-use native.Mathlib.Nat.{le-trans}
+use Prim.Native.Nat.{ℕ, _+_, _-_, _*_, _≤_, _<_}
 use native.Mathlib.Numerals.{add-one}
 use native.Mathlib.Omega.{arith}
 use borrow.Author.Tests.{lt-leb, le-leb}
-use lib.Dec.{leb, eqb}
+use lib.Dec.{leb}
 use lib.ListN.{length, getD, drop, drop-of-length-le}
 use lib.Seq.{drop-cons}
 use Rattle.laws.proofs.Tests.{by-test}
-use Rattle.lines.specs.Numbers.{isDigit, digits, valueFrom, isNumber, wholeOf, noNumber}
+use Rattle.lines.specs.Numbers.{isDigit, digits, valueFrom}
 
 -- digits after n, and the number that they make with it is at most `most`
 unfoldable pub goesOn : ℕ → ℕ → List ℕ → Bool

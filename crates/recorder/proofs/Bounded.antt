@@ -3,40 +3,38 @@ use mathlib.Core.Path.{_≡_, refl, _∙_}
 use mathlib.Core.Bool.{Bool, true, false, _&&_, _||_}
 use mathlib.Core.List.{List, [], _∷_}
 use mathlib.Core.Logic.{⊎-elim}
-use Prim.Native.Nat.{ℕ, zero, suc, _+_, _*_, _-_, _/_, _%_, _<_, _≤_}
+use Prim.Native.Nat.{ℕ, suc, _+_, _*_, _-_, _/_, _%_, _<_, _≤_}
 use native.Mathlib.Nat.{mod-lt, mod-self, mul-one, suc-mul, add-mul-mod-self-left, div-add-mod, div-lt-iff-lt-mul, add-sub-of-le, eq-or-lt-of-le, le-refl, le-of-eq, le-of-lt, le-of-suc-le-suc, mul-le-mul-left}
 use native.Mathlib.Omega.{arith}
 use lib.Dec.{ltb, leb, eqb}
 use lib.IntN.{ℤ}
 use lib.ListN.{getD, getD-replicate}
-use borrow.Author.Tests.{ltb-true, ltb-false, leb-true, leb-false, eqb-true, eqb-false, ne-eqb, le-ltb}
-use Rattle.laws.specs.If.{if_then_else_}
+use borrow.Author.Tests.{ltb-true, leb-true, eqb-true, eqb-false, ne-eqb, le-ltb}
 use Rattle.laws.proofs.If.{if-cases}
 use Rattle.laws.proofs.Tests.{by-test, and-left, and-right, or-right}
 use Rattle.laws.proofs.Keys.{key-holds}
-use Rattle.laws.specs.Answers.{Answer, given, refused}
+use Rattle.laws.specs.Answers.{Answer, given, refused, replyTo}
 use Rattle.laws.specs.Masks.{bitAt}
-use Rattle.laws.specs.Tables.{table}
-use Rattle.laws.proofs.Tables.{table-at}
 use Rattle.calendar.specs.Moments.{momentOf}
 use Rattle.calendar.specs.declared.Moment.{Moment}
 use Rattle.settings.specs.Rules.{periods, periodGood, inputGood, runsGood, ratioGood, sixZeros}
 use Rattle.settings.specs.Check.{sections}
 use Rattle.settings.specs.declared.Config.{Config}
 use Rattle.settings.specs.declared.Input.{Input}
-use Rattle.counting.specs.Filter.{inputAt, lineAt, filtered, filteredAt, steppedOf}
-use Rattle.counting.specs.Units.{unitsOf, heldSum, credited, creditIf, creditedAt, creditsOf}
-use Rattle.sampling.specs.Periods.{multiple, begunAnew, clearedAt, clearedLines, tickOf}
+use Rattle.counting.specs.Filter.{inputAt, lineAt, accepted}
+use Rattle.counting.specs.Units.{unitsOf, heldSum}
+use Rattle.sampling.specs.Periods.{multiple, begunAnew, clearedLines, tickOf}
 use Rattle.sampling.specs.Samples.{bookingOf, activeLines, bookingOn, putIn, countedOf, clockEnd, sampleOf}
 use Rattle.recorder.specs.Clock.{setTo, setDated, setOf, resetOf}
 use Rattle.recorder.specs.Meters.{readingOf}
-use Rattle.recorder.specs.Calls.{freshState, replyTo}
+use Rattle.recorder.specs.Calls.{freshState}
 use Rattle.recorder.specs.History.{Call, sample, set as set-call, reading, reset, after, afterAll, freshStart}
-use Rattle.recorder.specs.Laws.{Sound, Good, samplesOfPeriod, Bounded, ReachedIsBounded, HoldNeverActs}
+use Rattle.recorder.specs.Laws.{Sound, Good, Bounded, ReachedIsBounded, HoldNeverActs}
 use Rattle.counting.specs.declared.Line.{Line}
 use Rattle.sampling.specs.declared.State.{State}
 use Rattle.recorder.specs.declared.Recorder.{Recorder}
-use Rattle.recorder.proofs.Sound.{config-stays, reached-is-sound}
+use Rattle.counting.proofs.Lines.{passed, passed-units, line-after}
+use Rattle.recorder.proofs.Sound.{cleared-at, config-stays, reached-is-sound}
 
 -- a good period is 1 to 60 minutes
 good-period : (p : ℕ) → periodGood p ≡ true → (0 < p) × (p ≤ 60)
@@ -110,8 +108,8 @@ begun c s w e none =
 
 -- lines at the start of a period have no units
 cleared-none : (lines : List Line) (i : ℕ) → i < 16 → lineAt (clearedLines lines) i .units ≡ 0
-unfolding clearedLines clearedAt begunAnew
-cleared-none lines i l = rw (table-at 16 (clearedAt lines) i _ l) refl
+unfolding begunAnew
+cleared-none lines i l = rw (cleared-at lines i l) refl
 
 -- a time that is no multiple of the period's seconds
 no-multiple : (period time : ℕ) → 0 < period → multiple period time ≡ false → time % (period * 60) ≡ 0 → ⊥
@@ -124,34 +122,28 @@ no-multiple period time some e =
 held-most : (units more : ℕ) → heldSum units more ≤ units + more
 held-most units more = if-cases (λ n. n ≤ units + more) (ltb 4_294_967_295 (units + more)) (λ e. le-of-lt (ltb-true 4_294_967_295 (units + more) e)) (λ e. le-refl (units + more))
 
--- an impulse, or none, brings at most 10,000 units to level 0
-credited-most : (input : Input) (line : Line) (on : Bool) → (0 < input .denominator → line .remainder < input .denominator)
-    → input .numerator ≤ 10_000
-    → creditIf input line on .units ≤ line .units + 10_000
-unfolding creditIf credited
-credited-most input line true below h =
-    let most = held-most (line .units) (unitsOf input (line .remainder)) in
-    let few = few-units input (line .remainder) below in omega arith
-credited-most input line false below h = omega arith
+-- a sample brings at most 10,000 units to level 0 of a line
+passed-most : (input : Input) (line : Line) (on : Bool) → (0 < input .denominator → line .remainder < input .denominator)
+    → input .numerator ≤ 10_000 → passed input line on .units ≤ line .units + 10_000
+passed-most input line on below h =
+    rw (passed-units input line on)
+    (if-cases (λ n. n ≤ line .units + 10_000) (accepted input line on)
+    (λ t. omega (arith, held-most (line .units) (unitsOf input (line .remainder)), few-units input (line .remainder) below))
+    (λ f. omega arith))
 
 module _ (c : Config) (w : Within c) where
   -- a state with a sample booked and not yet counted
   booked-filled : (s : State) → Sound c s → (mask : ℕ) → Filled c s (s .samples)
       → Filled c (putIn s (s .clock) (s .samples) (bookingOf c (s .clock) (s .lines) (s .bills) mask .lines) (bookingOf c (s .clock) (s .lines) (s .bills) mask .bills)) (s .samples + 1)
-  unfolding bookingOf creditsOf steppedOf creditedAt filteredAt filtered
+  unfolding bookingOf
   booked-filled s h mask f =
-      let stepped = table 16 (filteredAt (c .inputs) (s .lines) mask) in
-      let impulses = steppedOf (c .inputs) (s .lines) mask .impulses in
-      let now = creditedAt (c .inputs) stepped impulses in
       record {
         began = f .began;
         within = f .within;
         filled = λ i l.
-            let was = f .filled i l in
-            let same : lineAt stepped i ≡ filteredAt (c .inputs) (s .lines) mask i = table-at 16 (filteredAt (c .inputs) (s .lines) mask) i _ l in
-            let more : creditIf (inputAt (c .inputs) i) (lineAt stepped i) (bitAt impulses i) .units ≤ lineAt (s .lines) i .units + 10_000 =
-            rw same (credited-most (inputAt (c .inputs) i) (filteredAt (c .inputs) (s .lines) mask i) (bitAt impulses i) (h .lines .remainders i l) (w .numerators i l)) in
-            rw (table-at 16 now i _ l) (omega arith);
+            let line = lineAt (s .lines) i in
+            rw (line-after (c .inputs) (s .lines) mask i l)
+            (omega (arith, f .filled i l, passed-most (inputAt (c .inputs) i) line (bitAt mask i) (h .lines .remainders i l) (w .numerators i l)));
       }
 
   -- the state after the step, when the hundredth sample was booked
@@ -190,11 +182,11 @@ module _ (c : Config) (w : Within c) where
 
   -- the state after a sample, taken or refused
   sample-filled : (s : State) → Sound c s → Filled c s (s .samples) → (bits : ℕ)
-      → Filled c (replyTo s (sampleOf c s bits) .state) (replyTo s (sampleOf c s bits) .state .samples)
+      → Filled c (replyTo s (sampleOf c s bits) .after) (replyTo s (sampleOf c s bits) .after .samples)
   unfolding sampleOf
   sample-filled s h f bits =
       let b = bookingOn c s bits in
-      let kept : Answer State → Type 0 = λ a. Filled c (replyTo s a .state) (replyTo s a .state .samples) in
+      let kept : Answer State → Type 0 = λ a. Filled c (replyTo s a .after) (replyTo s a .after .samples) in
       if-cases kept (clockEnd s) (λ e. f)
       (λ e.
       if-cases kept (b .full) (λ g. f)
@@ -204,17 +196,17 @@ module _ (c : Config) (w : Within c) where
 
   -- the state after a clock set, taken or refused
   dated-filled : (s : State) (time : ℕ) (a : Answer Moment) → Filled c s (s .samples)
-      → Filled c (replyTo s (setDated a (setTo c s time)) .state) (replyTo s (setDated a (setTo c s time)) .state .samples)
+      → Filled c (replyTo s (setDated a (setTo c s time)) .after) (replyTo s (setDated a (setTo c s time)) .after .samples)
   unfolding setTo
   dated-filled s time (given m) f = set-filled s time
   dated-filled s time (refused n offset) f = f
 
   -- the state after a reading
   reading-filled : (s : State) → Filled c s (s .samples) → (meter : ℕ) (value : ℤ) (status seq : ℕ)
-      → Filled c (replyTo s (readingOf c s meter value status seq) .state) (replyTo s (readingOf c s meter value status seq) .state .samples)
+      → Filled c (replyTo s (readingOf c s meter value status seq) .after) (replyTo s (readingOf c s meter value status seq) .after .samples)
   unfolding readingOf
   reading-filled s f meter value status seq =
-      let kept : Answer State → Type 0 = λ a. Filled c (replyTo s a .state) (replyTo s a .state .samples) in
+      let kept : Answer State → Type 0 = λ a. Filled c (replyTo s a .after) (replyTo s a .after .samples) in
       if-cases kept (ltb 31 meter) (λ e. f)
       (λ e.
       if-cases kept (eqb (getD (c .limits) meter 0) 0) (λ g. f)

@@ -13,16 +13,16 @@ use Rattle.tariff.specs.Daily.{dailyActive}
 use Rattle.tariff.specs.Weekly.{firstHoliday, columnOn, referenceAt, weeklyActive}
 use Rattle.tariff.specs.Seasons.{inSeason, seasonActive}
 use Rattle.tariff.specs.Rules.{applies, inForce, forceMap, forceOf}
-use Rattle.counting.specs.Filter.{accepted, filtered, filteredAt, acceptedAt, steppedOf}
-use Rattle.counting.specs.Units.{unitsOf, remainderOf, credited, creditIf, unitsIf, creditedAt, unitsAt, creditsOf}
-use Rattle.counting.specs.Bills.{namedPart, sumOf, sumAt, sumsOf, registerUnits, dueOf, fills, billed, dueAt, fillsAt, billedAt, bookedOf}
-use Rattle.counting.specs.Levels.{level0At, level0, termAt, level2, inputValue, sumValue, functionValue, slotValue, slotValueAt, slotValues}
-use Rattle.sampling.specs.Periods.{multiple, begunAnew, clearedAt, clearedLines, closedAs, tickOf}
+use Rattle.counting.specs.Filter.{accepted, filtered, steppedOf}
+use Rattle.counting.specs.Units.{unitsOf, remainderOf, credited, creditsOf}
+use Rattle.counting.specs.Bills.{sumOf, sumAt, sumsOf, registerUnits, dueOf, billed, bookedOf}
+use Rattle.counting.specs.Levels.{level0, level2, inputValue, sumValue, functionValue, slotValue, slotValues}
+use Rattle.sampling.specs.Periods.{multiple, begunAnew, clearedLines, closedAs, tickOf}
 use Rattle.sampling.specs.Samples.{bookingOf, activeAt, activeLines, countedOf, sampleOf, samplesOf}
 use Rattle.recorder.specs.Calls.{freshState}
-use Rattle.recorder.specs.Cases.{Claim, cases}
+use Rattle.recorder.specs.Cases.{ImpulseClaim, impulseCases}
 
 -- all of them hold: antt computes both sides of each
-pub cases-hold : Each Claim cases
-unfolding first any total span maskOf bitAt table monthLength yearLength yearDay momentOf dailyActive firstHoliday columnOn referenceAt weeklyActive inSeason seasonActive applies inForce forceMap forceOf accepted filtered filteredAt acceptedAt steppedOf unitsOf remainderOf credited creditIf unitsIf creditedAt unitsAt creditsOf namedPart sumOf sumAt sumsOf registerUnits dueOf fills billed dueAt fillsAt billedAt bookedOf level0At level0 termAt level2 inputValue sumValue functionValue slotValue slotValueAt slotValues multiple begunAnew clearedAt clearedLines closedAs tickOf bookingOf activeAt activeLines countedOf sampleOf samplesOf freshState
+pub cases-hold : Each ImpulseClaim impulseCases
+unfolding first any total span maskOf bitAt table monthLength yearLength yearDay momentOf dailyActive firstHoliday columnOn referenceAt weeklyActive inSeason seasonActive applies inForce forceMap forceOf accepted filtered steppedOf unitsOf remainderOf credited creditsOf sumOf sumAt sumsOf registerUnits dueOf billed bookedOf level0 level2 inputValue sumValue functionValue slotValue slotValues multiple begunAnew clearedLines closedAs tickOf bookingOf activeAt activeLines countedOf sampleOf samplesOf freshState
 cases-hold = ((refl, refl), ((refl, refl), ((refl, refl), ((refl, refl), ((refl, refl), ((refl, refl), ((refl, refl), ((refl, refl), ((refl, refl, refl), tt)))))))))

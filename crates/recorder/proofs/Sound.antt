@@ -1,21 +1,19 @@
 -- Every state that calls can reach is sound: by induction over the calls.
-use mathlib.Core.Path.{_≡_, refl, sym, ap, _∙_}
+use mathlib.Core.Path.{_≡_, refl, _∙_}
 use mathlib.Core.Bool.{Bool, true, false, _||_}
 use mathlib.Core.List.{List, [], _∷_}
-use Prim.Native.Nat.{ℕ, zero, suc, _+_, _<_, _≤_}
+use Prim.Native.Nat.{ℕ, _+_, _<_, _≤_}
 use native.Mathlib.Nat.{add-zero, mod-lt, zero-lt-suc}
 use native.Mathlib.Omega.{arith}
 use lib.Dec.{ltb, leb, eqb}
 use lib.IntN.{ℤ}
-use lib.ListN.{length, getD, length-set, length-replicate, getD-replicate}
-use borrow.Author.Tests.{ltb-true, ltb-false, leb-true, leb-false, eqb-true, ne-eqb}
-use Rattle.laws.specs.If.{if_then_else_}
+use lib.ListN.{getD, length-set, length-replicate, getD-replicate}
+use borrow.Author.Tests.{ltb-true, ltb-false, leb-false, ne-eqb}
 use Rattle.laws.proofs.If.{if-cases}
 use Rattle.laws.proofs.Tests.{by-test}
-use Rattle.laws.specs.Answers.{Answer, given, refused}
+use Rattle.laws.specs.Answers.{Answer, given, refused, replyTo}
 use Rattle.laws.proofs.Any.{any-not}
 use Rattle.laws.specs.Masks.{bitAt}
-use Rattle.laws.specs.Tables.{table}
 use Rattle.laws.proofs.Tables.{table-at, length-table}
 use Rattle.calendar.specs.Moments.{momentOf}
 use Rattle.calendar.specs.declared.Moment.{Moment}
@@ -23,14 +21,14 @@ use Rattle.tariff.specs.Rules.{forceMapAt}
 use Rattle.settings.specs.declared.Config.{Config}
 use Rattle.settings.specs.declared.Input.{Input}
 use Rattle.settings.specs.declared.Register.{Register}
-use Rattle.counting.specs.Filter.{inputAt, lineAt, nextRun, filtered, filteredAt, steppedOf}
-use Rattle.counting.specs.Units.{remainderOf, credited, creditIf, creditedAt, creditsOf}
-use Rattle.counting.specs.Bills.{registerAt, billAt, fills, billed, dueAt, fillsAt, billedAt, bookedOf}
-use Rattle.sampling.specs.Periods.{multiple, begunAnew, clearedAt, clearedLines, tickOf}
+use Rattle.counting.specs.Filter.{inputAt, lineAt, nextRun, accepted}
+use Rattle.counting.specs.Units.{remainderOf, creditsOf}
+use Rattle.counting.specs.Bills.{registerAt, billAt, fillsUp, dueOf, billed, bookedOf}
+use Rattle.sampling.specs.Periods.{multiple, begunAnew, clearedLines, tickOf}
 use Rattle.sampling.specs.Samples.{bookingOf, activeLines, bookingOn, putIn, countedOf, clockEnd, sampleOf}
-use Rattle.recorder.specs.Clock.{setTo, setDated, setOf, closedBill, closedBillAt, resetOf}
+use Rattle.recorder.specs.Clock.{setTo, setDated, setOf, closedBill, resetOf}
 use Rattle.recorder.specs.Meters.{readingOf}
-use Rattle.recorder.specs.Calls.{freshState, replyTo}
+use Rattle.recorder.specs.Calls.{freshState}
 use Rattle.recorder.specs.History.{Call, sample, set as set-call, reading, reset, after, afterAll, freshStart}
 use Rattle.recorder.specs.Laws.{SoundLines, SoundBills, Sound, ReachedIsSound, ConfigStays}
 use Rattle.counting.specs.declared.Line.{Line}
@@ -38,6 +36,7 @@ use Rattle.counting.specs.declared.Bill.{Bill}
 use Rattle.sampling.specs.declared.State.{State}
 use Rattle.recorder.specs.declared.Recorder.{Recorder}
 use Rattle.counting.proofs.Full.{not-full}
+use Rattle.counting.proofs.Lines.{passed-run, passed-remainder, line-after}
 
 -- a run after the filter is at most 256
 run-held : (run : ℕ) (on : Bool) → nextRun run on ≤ 256
@@ -51,66 +50,47 @@ remainder-below input remainder h =
     let some : input .denominator ≡ 0 → ⊥ = omega arith in
     rw (ne-eqb (input .denominator) 0 some) (mod-lt (remainder + input .numerator) h)
 
--- a line with an impulse, or without one, keeps its run
-credited-run : (input : Input) (line : Line) (on : Bool) → line .run ≤ 256 → creditIf input line on .run ≤ 256
-unfolding creditIf credited
-credited-run input line true h = h
-credited-run input line false h = h
-
--- and has a remainder below the denominator
-credited-remainder : (input : Input) (line : Line) (on : Bool) → 0 < input .denominator → line .remainder < input .denominator
-    → creditIf input line on .remainder < input .denominator
-unfolding creditIf credited
-credited-remainder input line true d h = remainder-below input (line .remainder) d
-credited-remainder input line false d h = h
-
 -- lines after a sample
 booked-lines : (c : Config) (clock : ℕ) (lines : List Line) (bills : List Bill) (mask : ℕ) → SoundLines (c .inputs) lines
     → SoundLines (c .inputs) (bookingOf c clock lines bills mask .lines)
-unfolding bookingOf creditsOf steppedOf creditedAt filteredAt filtered
+unfolding bookingOf creditsOf
 booked-lines c clock lines bills mask h =
-    let stepped = table 16 (filteredAt (c .inputs) lines mask) in
-    let impulses = steppedOf (c .inputs) lines mask .impulses in
-    let now = creditedAt (c .inputs) stepped impulses in
+    let input : ℕ → Input = inputAt (c .inputs) in
     record {
-      sixteen = length-table 16 now;
-      runs = λ i l.
-          rw (table-at 16 now i _ l)
-          (credited-run (inputAt (c .inputs) i) (lineAt stepped i) (bitAt impulses i) (rw (table-at 16 (filteredAt (c .inputs) lines mask) i _ l) (run-held (lineAt lines i .run) (bitAt mask i))));
+      sixteen = length-table 16 _;
+      runs = λ i l. rw (line-after (c .inputs) lines mask i l, passed-run (input i) (lineAt lines i) (bitAt mask i)) (run-held (lineAt lines i .run) (bitAt mask i));
       remainders = λ i l d.
-          rw (table-at 16 now i _ l)
-          (credited-remainder (inputAt (c .inputs) i) (lineAt stepped i) (bitAt impulses i) d (rw (table-at 16 (filteredAt (c .inputs) lines mask) i _ l) (h .remainders i l d)));
+          rw (line-after (c .inputs) lines mask i l, passed-remainder (input i) (lineAt lines i) (bitAt mask i))
+          (if-cases (λ n. n < input i .denominator) (accepted (input i) (lineAt lines i) (bitAt mask i)) (λ t. remainder-below (input i) (lineAt lines i .remainder) d) (λ f. h .remainders i l d));
     }
 
--- lines at the start of a period
+-- line i at the start of a period
+pub cleared-at : (lines : List Line) (i : ℕ) → i < 16 → lineAt (clearedLines lines) i ≡ begunAnew (lineAt lines i)
+unfolding clearedLines
+cleared-at lines i l = table-at 16 _ i _ l
+
+-- all lines
 cleared-lines : (inputs : List Input) (lines : List Line) → SoundLines inputs lines → SoundLines inputs (clearedLines lines)
-unfolding clearedLines clearedAt begunAnew
+unfolding clearedLines begunAnew
 cleared-lines inputs lines h =
     record {
-      sixteen = length-table 16 (clearedAt lines);
-      runs = λ i l. rw (table-at 16 (clearedAt lines) i _ l) (h .runs i l);
-      remainders = λ i l d. rw (table-at 16 (clearedAt lines) i _ l) (h .remainders i l d);
+      sixteen = length-table 16 _;
+      runs = λ i l. rw (cleared-at lines i l) (h .runs i l);
+      remainders = λ i l d. rw (cleared-at lines i l) (h .remainders i l d);
     }
 
 -- a bill that is booked without being full
-billed-within : (bill : Bill) (due : ℕ) → fills bill due ≡ false → bill .amount ≤ 999_999_999 → billed bill due .amount ≤ 999_999_999
+billed-within : (bill : Bill) (due : ℕ) → fillsUp (bill .amount) due ≡ false → bill .amount ≤ 999_999_999 → billed bill due .amount ≤ 999_999_999
 unfolding billed
 billed-within bill due e h =
     rw e
-    (by-test (ltb 0 due) (λ l. not-full bill due e (ltb-true 0 due l))
+    (by-test (ltb 0 due) (λ l. not-full (bill .amount) due e (ltb-true 0 due l))
     (λ g. let none : due ≡ 0 = omega (arith, ltb-false 0 due g) in rw (none, add-zero) h))
 
--- bill j after a sample that does not fill it
-one-bill : (registers : List Register) (bills : List Bill) (map : ℕ) (sums : List ℕ) (j : ℕ) → fillsAt registers bills map sums j ≡ false
-    → billAt bills j .amount ≤ 999_999_999 → billedAt registers bills map sums j .amount ≤ 999_999_999
-unfolding fillsAt billedAt
-one-bill registers bills map sums j e h = billed-within (billAt bills j) (dueAt registers map sums j) e h
-
--- bill j after a billing reset
-one-reset : (registers : List Register) (bills : List Bill) (clock j : ℕ) → billAt bills j .amount ≤ 999_999_999
-    → closedBillAt registers bills clock j .amount ≤ 999_999_999
-unfolding closedBillAt closedBill
-one-reset registers bills clock j h = if-cases (λ (b : Bill). b .amount ≤ 999_999_999) (ltb (registerAt registers j .sum) 8) (λ e. omega arith) (λ e. h)
+-- a bill after a billing reset
+closed-within : (register : Register) (bill : Bill) (clock : ℕ) → bill .amount ≤ 999_999_999 → closedBill register bill clock .amount ≤ 999_999_999
+unfolding closedBill
+closed-within register bill clock h = if-cases (λ (b : Bill). b .amount ≤ 999_999_999) (ltb (register .sum) 8) (λ e. omega arith) (λ e. h)
 
 -- bills after a sample that was not refused
 booked-bills : (registers : List Register) (bills : List Bill) (map : ℕ) (sums : List ℕ) → bookedOf registers bills map sums .full ≡ false
@@ -118,8 +98,10 @@ booked-bills : (registers : List Register) (bills : List Bill) (map : ℕ) (sums
 unfolding bookedOf
 booked-bills registers bills map sums e h =
     record {
-      sixteen = length-table 16 (billedAt registers bills map sums);
-      amounts = λ j l. rw (table-at 16 (billedAt registers bills map sums) j _ l) (one-bill registers bills map sums j (any-not 16 (fillsAt registers bills map sums) e j l) (h .amounts j l));
+      sixteen = length-table 16 _;
+      amounts = λ j l.
+          let due : ℕ → ℕ = λ k. dueOf (registerAt registers k) map sums in
+          rw (table-at 16 (λ k. billed (billAt bills k) (due k)) j _ l) (billed-within (billAt bills j) (due j) (any-not 16 _ e j l) (h .amounts j l));
     }
 
 module _ (c : Config) (s : State) (h : Sound c s) where
@@ -147,12 +129,12 @@ module _ (c : Config) (s : State) (h : Sound c s) where
   reset-sound : Sound c (resetOf c s)
   unfolding resetOf
   reset-sound =
-      let fresh = closedBillAt (c .registers) (s .bills) (s .clock) in
+      let fresh : ℕ → Bill = λ j. closedBill (registerAt (c .registers) j) (billAt (s .bills) j) (s .clock) in
       record {
         lines = h .lines;
         bills = record {
           sixteen = length-table 16 fresh;
-          amounts = λ j l. rw (table-at 16 fresh j _ l) (one-reset (c .registers) (s .bills) (s .clock) j (h .bills .amounts j l));
+          amounts = λ j l. rw (table-at 16 fresh j _ l) (closed-within (registerAt (c .registers) j) (billAt (s .bills) j) (s .clock) (h .bills .amounts j l));
         };
         meters = h .meters;
         samples = h .samples;
@@ -172,29 +154,29 @@ module _ (c : Config) (s : State) (h : Sound c s) where
       }
 
   -- the state after a sample, taken or refused
-  sample-sound : (bits : ℕ) → Sound c (replyTo s (sampleOf c s bits) .state)
+  sample-sound : (bits : ℕ) → Sound c (replyTo s (sampleOf c s bits) .after)
   unfolding sampleOf
   sample-sound bits =
       let b = bookingOn c s bits in
-      if-cases (λ a. Sound c (replyTo s a .state)) (clockEnd s) (λ e. h)
+      if-cases (λ a. Sound c (replyTo s a .after)) (clockEnd s) (λ e. h)
       (λ e.
-      if-cases (λ a. Sound c (replyTo s a .state)) (b .full) (λ f. h)
+      if-cases (λ a. Sound c (replyTo s a .after)) (b .full) (λ f. h)
       (λ f. counted-sound c (putIn s (s .clock) (s .samples) (b .lines) (b .bills)) (booked-sound (activeLines (c .inputs) bits) f)))
 
   -- the state after a clock set
-  dated-sound : (time : ℕ) (a : Answer Moment) → Sound c (replyTo s (setDated a (setTo c s time)) .state)
+  dated-sound : (time : ℕ) (a : Answer Moment) → Sound c (replyTo s (setDated a (setTo c s time)) .after)
   dated-sound time (given m) = set-sound c s h time
   dated-sound time (refused n offset) = h
 
   -- the state after a reading
-  reading-sound : (meter : ℕ) (value : ℤ) (status seq : ℕ) → Sound c (replyTo s (readingOf c s meter value status seq) .state)
+  reading-sound : (meter : ℕ) (value : ℤ) (status seq : ℕ) → Sound c (replyTo s (readingOf c s meter value status seq) .after)
   unfolding readingOf
   reading-sound meter value status seq =
-      if-cases (λ a. Sound c (replyTo s a .state)) (ltb 31 meter) (λ e. h)
+      if-cases (λ a. Sound c (replyTo s a .after)) (ltb 31 meter) (λ e. h)
       (λ e.
-      if-cases (λ a. Sound c (replyTo s a .state)) (eqb (getD (c .limits) meter 0) 0) (λ f. h)
+      if-cases (λ a. Sound c (replyTo s a .after)) (eqb (getD (c .limits) meter 0) 0) (λ f. h)
       (λ f.
-      if-cases (λ a. Sound c (replyTo s a .state)) (ltb 7 status || ltb 31 seq) (λ g. h)
+      if-cases (λ a. Sound c (replyTo s a .after)) (ltb 7 status || ltb 31 seq) (λ g. h)
       (λ g. record { lines = h .lines; bills = h .bills; meters = simp length-set (h .meters); samples = h .samples })))
 
 -- the state after a call

@@ -2,13 +2,14 @@
 use mathlib.Core.Path.{_≡_, refl, sym, ap, _∙_}
 use Prim.Native.Nat.{ℕ}
 use lib.Dec.{eqb}
-use Rattle.laws.specs.Answers.{Answer, given, refused}
+use Rattle.laws.specs.Answers.{Answer, given, refused, Reply, RunReply}
 use Rattle.laws.specs.If.{if_then_else_}
 use Rattle.laws.specs.Unique.{OneResult}
 use Rattle.laws.proofs.Unique.{told-apart}
 use Rattle.sampling.proofs.Unique.{sample-apart}
 use Rattle.recorder.specs.Meters.{ageNumber, ageSaid}
-use Rattle.recorder.specs.Calls.{StartAnswered, startNumber, setNumber, readingNumber, Answered, RunAnswered}
+use Rattle.recorder.specs.Calls.{StartAnswered, startNumber, setNumber, readingNumber}
+use Rattle.recorder.specs.declared.Recorder.{Recorder}
 use Rattle.recorder.specs.declared.StartAnswer.{StartAnswer}
 use Rattle.recorder.specs.declared.StartAnswer.the-variants as start
 use Rattle.recorder.specs.declared.calls.SetAnswer.{SetAnswer}
@@ -108,30 +109,30 @@ start-once κs a x y e f p q =
 pub sample-once : OneResult sample-reads.Post
 sample-once κs a x y e f p q =
     let s = p ∙ sym q in
-    let answer = sample-apart (x .answer) (y .answer) (ap (λ (r : Answered). r .number) s) in
-    let recorder = ap (λ (r : Answered). r .recorder) s in
+    let answer = sample-apart (x .answer) (y .answer) (ap (λ (r : Reply Recorder). r .number) s) in
+    let recorder = ap (λ (r : Reply Recorder). r .after) s in
     (λ i. record { answer = answer i; recorder = recorder i })
 
 pub samples-once : OneResult samples-reads.Post
 samples-once κs a x y e f p q =
     let s = p ∙ sym q in
-    let taken = ap (λ (r : RunAnswered). r .taken) s in
-    let answer = sample-apart (x .answer) (y .answer) (ap (λ (r : RunAnswered). r .number) s) in
-    let recorder = ap (λ (r : RunAnswered). r .recorder) s in
+    let taken = ap (λ (r : RunReply Recorder). r .taken) s in
+    let answer = sample-apart (x .answer) (y .answer) (ap (λ (r : RunReply Recorder). r .number) s) in
+    let recorder = ap (λ (r : RunReply Recorder). r .after) s in
     (λ i. record { taken = taken i; answer = answer i; recorder = recorder i })
 
 pub set-clock-once : OneResult set-clock-reads.Post
 set-clock-once κs a x y e f p q =
     let s = p ∙ sym q in
-    let answer = set-apart (x .answer) (y .answer) (ap (λ (r : Answered). r .number) s) in
-    let recorder = ap (λ (r : Answered). r .recorder) s in
+    let answer = set-apart (x .answer) (y .answer) (ap (λ (r : Reply Recorder). r .number) s) in
+    let recorder = ap (λ (r : Reply Recorder). r .after) s in
     (λ i. record { answer = answer i; recorder = recorder i })
 
 pub reading-once : OneResult reading-reads.Post
 reading-once κs a x y e f p q =
     let s = p ∙ sym q in
-    let answer = reading-apart (x .answer) (y .answer) (ap (λ (r : Answered). r .number) s) in
-    let recorder = ap (λ (r : Answered). r .recorder) s in
+    let answer = reading-apart (x .answer) (y .answer) (ap (λ (r : Reply Recorder). r .number) s) in
+    let recorder = ap (λ (r : Reply Recorder). r .after) s in
     (λ i. record { answer = answer i; recorder = recorder i })
 
 pub reset-bills-once : OneResult reset-bills-reads.Post

@@ -5,13 +5,13 @@ use mathlib.Core.List.{List}
 use Prim.Native.Nat.{ℕ}
 use lib.IntN.{ℤ, pos}
 use lib.ListN.{replicate}
-use Rattle.laws.specs.Answers.{Answer, given, refused}
+use Rattle.laws.specs.Answers.{Answer, given, refused, Reply, RunReply, replyTo}
 use Rattle.calendar.specs.Moments.{momentOf}
 use Rattle.calendar.specs.declared.Moment.{Moment}
 use Rattle.image.specs.Image.{blankConfig}
 use Rattle.image.specs.Answers.{imageAnswer, imageConfig}
 use Rattle.settings.specs.declared.Config.{Config}
-use Rattle.sampling.specs.Samples.{sampleNumber, sampleOf, Run, samplesOf}
+use Rattle.sampling.specs.Samples.{sampleNumber, sampleOf, samplesOf}
 use Rattle.recorder.specs.Meters.{readingOf}
 use Rattle.recorder.specs.Clock.{setOf, resetOf}
 use Rattle.sampling.specs.declared.State.{State}
@@ -96,74 +96,53 @@ readingNumber NoMeter = 7
 readingNumber NotFitted = 8
 readingNumber BadReading = 10
 
--- a reply: document 01's number, 0 where the call was taken, and the state after it
-pub record StateReply : Type 0 where
-  pub number : ℕ
-  pub state : State
-
--- a refused call leaves the state as it was
-abbrev pub replyTo : State → Answer State → StateReply
-replyTo s (given next) = record { number = 0; state = next }
-replyTo s (refused n offset) = record { number = n; state = s }
-
 -- what the code's answer to a clock set says of the state
-abbrev pub setSaid : Setting → StateReply
-setSaid r = record { number = setNumber (r .answer); state = r .state }
+abbrev pub setSaid : Setting → Reply State
+setSaid r = record { number = setNumber (r .answer); after = r .state }
 
 -- what the code's answer to a reading says of the state
-abbrev pub readingSaid : Reading → StateReply
-readingSaid r = record { number = readingNumber (r .answer); state = r .state }
+abbrev pub readingSaid : Reading → Reply State
+readingSaid r = record { number = readingNumber (r .answer); after = r .state }
 
 -- the same of the whole recorder: a call leaves the configuration
-pub record Answered : Type 0 where
-  pub number : ℕ
-  pub recorder : Recorder
-
--- a reply with the configuration beside it
-abbrev pub beside : Config → StateReply → Answered
-beside c reply = record { number = reply .number; recorder = record { config = c; state = reply .state } }
+abbrev pub beside : Config → Reply State → Reply Recorder
+beside c reply = record { number = reply .number; after = record { config = c; state = reply .after } }
 
 -- the reply to a sample
-abbrev pub sampleReply : Recorder → ℕ → Answered
+abbrev pub sampleReply : Recorder → ℕ → Reply Recorder
 sampleReply r bits = beside (r .config) (replyTo (r .state) (sampleOf (r .config) (r .state) bits))
 
 -- what the code's answer to a sample says
-abbrev pub sampledSaid : Sampled → Answered
-sampledSaid r = record { number = sampleNumber (r .answer); recorder = r .recorder }
+abbrev pub sampledSaid : Sampled → Reply Recorder
+sampledSaid r = record { number = sampleNumber (r .answer); after = r .recorder }
 
--- the reply to a run of samples: how many were taken, too
-pub record RunAnswered : Type 0 where
-  pub taken : ℕ
-  pub number : ℕ
-  pub recorder : Recorder
-
--- a run with the configuration beside it
-abbrev pub runBeside : Config → Run → RunAnswered
-runBeside c run = record { taken = run .taken; number = run .number; recorder = record { config = c; state = run .state } }
+-- the same of a run of samples
+abbrev pub runBeside : Config → RunReply State → RunReply Recorder
+runBeside c run = record { taken = run .taken; number = run .number; after = record { config = c; state = run .after } }
 
 -- the samples one after another, up to the first refusal
-abbrev pub samplesReply : Recorder → List ℕ → RunAnswered
+abbrev pub samplesReply : Recorder → List ℕ → RunReply Recorder
 samplesReply r bits = runBeside (r .config) (samplesOf (r .config) (r .state) bits)
 
 -- what the code's answer to a run says
-abbrev pub runSaid : SampleRun → RunAnswered
-runSaid r = record { taken = r .taken; number = sampleNumber (r .answer); recorder = r .recorder }
+abbrev pub runSaid : SampleRun → RunReply Recorder
+runSaid r = record { taken = r .taken; number = sampleNumber (r .answer); after = r .recorder }
 
 -- the reply to a clock set
-abbrev pub setReply : Recorder → ℕ → Answered
+abbrev pub setReply : Recorder → ℕ → Reply Recorder
 setReply r time = beside (r .config) (replyTo (r .state) (setOf (r .config) (r .state) time))
 
 -- what the code's answer to a clock set says
-abbrev pub clockSetSaid : ClockSet → Answered
-clockSetSaid r = record { number = setNumber (r .answer); recorder = r .recorder }
+abbrev pub clockSetSaid : ClockSet → Reply Recorder
+clockSetSaid r = record { number = setNumber (r .answer); after = r .recorder }
 
 -- the reply to a reading
-abbrev pub readingReply : Recorder → ℕ → ℤ → ℕ → ℕ → Answered
+abbrev pub readingReply : Recorder → ℕ → ℤ → ℕ → ℕ → Reply Recorder
 readingReply r meter value status seq = beside (r .config) (replyTo (r .state) (readingOf (r .config) (r .state) meter value status seq))
 
 -- what the code's answer to a reading says
-abbrev pub meterReadSaid : MeterRead → Answered
-meterReadSaid r = record { number = readingNumber (r .answer); recorder = r .recorder }
+abbrev pub meterReadSaid : MeterRead → Reply Recorder
+meterReadSaid r = record { number = readingNumber (r .answer); after = r .recorder }
 
 -- the recorder after a billing reset
 abbrev pub resetReply : Recorder → Recorder

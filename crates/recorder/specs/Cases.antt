@@ -40,7 +40,7 @@ oneInput shortest longest numerator denominator =
 
 -- the state after samples from a fresh start at a time
 abbrev afterSamples : Config → ℕ → List ℕ → State
-afterSamples c time bits = samplesOf c (freshState time) bits .state
+afterSamples c time bits = samplesOf c (freshState time) bits .after
 
 -- impulses of one sample each
 abbrev impulses : ℕ → List ℕ
@@ -48,26 +48,26 @@ impulses zero = []
 impulses (suc n) = 1 ∷ (0 ∷ impulses n)
 
 -- a case of the table: a run of some samples is accepted or rejected; impulses give units and leave a remainder; bills of two tariffs
-pub data Case : Type 0 where
-  run-of : ℕ → ℕ → ℕ → Case
-  impulses-give : ℕ → ℕ → ℕ → Case
-  tariffs-get : ℕ → ℕ → ℕ → Case
+pub data ImpulseCase : Type 0 where
+  run-of : ℕ → ℕ → ℕ → ImpulseCase
+  impulses-give : ℕ → ℕ → ℕ → ImpulseCase
+  tariffs-get : ℕ → ℕ → ℕ → ImpulseCase
 
 -- what a case claims, with runs from 3 to 8 and a factor of 1; with a factor of 3/10; with three impulses before noon and one after it
-abbrev pub Claim : Case → Type 0
-Claim (run-of n units rejected) =
+abbrev pub ImpulseClaim : ImpulseCase → Type 0
+ImpulseClaim (run-of n units rejected) =
     let line = lineAt (afterSamples (oneInput 3 8 1 1) 0 (replicate n 1 ++ (0 ∷ [])) .lines) 0 in
     (line .units ≡ units) × (line .rejected ≡ rejected)
-Claim (impulses-give n units remainder) =
+ImpulseClaim (impulses-give n units remainder) =
     let line = lineAt (afterSamples (oneInput 1 255 3 10) 0 (impulses n) .lines) 0 in
     (line .units ≡ units) × (line .remainder ≡ remainder)
-Claim (tariffs-get a b none) =
+ImpulseClaim (tariffs-get a b none) =
     let bills = afterSamples (oneInput 1 255 3 10) 43_199 (impulses 3 ++ (replicate 94 0 ++ impulses 1)) .bills in
     (billAt bills 0 .amount ≡ a) × (billAt bills 1 .amount ≡ b) × (billAt bills 2 .amount ≡ none)
 
 -- lines 5, 6 and 7
-abbrev pub cases : List Case
-cases =
+abbrev pub impulseCases : List ImpulseCase
+impulseCases =
     run-of 2 0 1
     ∷ run-of 3 1 0
     ∷ run-of 8 1 0

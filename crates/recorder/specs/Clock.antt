@@ -35,10 +35,10 @@ unfoldable pub closedBill : Register → Bill → ℕ → Bill
 closedBill register bill clock =
     if ltb (register .sum) 8 then record { amount = 0; closed = bill .amount; stamp = clock; reset = true } else bill
 
--- bill j after a billing reset
-unfoldable pub closedBillAt : List Register → List Bill → ℕ → ℕ → Bill
-closedBillAt registers bills clock j = closedBill (registerAt registers j) (billAt bills j) clock
+-- a state with other bills
+abbrev pub withBills : State → List Bill → State
+withBills s bills = putIn s (s .clock) (s .samples) (s .lines) bills
 
 -- a billing reset closes every register in use at once; all else goes on
 unfoldable pub resetOf : Config → State → State
-resetOf c s = putIn s (s .clock) (s .samples) (s .lines) (table 16 (closedBillAt (c .registers) (s .bills) (s .clock)))
+resetOf c s = withBills s (table 16 (λ j. closedBill (registerAt (c .registers) j) (billAt (s .bills) j) (s .clock)))

@@ -15,9 +15,9 @@ pub data Call : Type 0 where
 
 -- the recorder after a call; a refused one leaves it
 abbrev pub after : Recorder → Call → Recorder
-after r (sample bits) = sampleReply r bits .recorder
-after r (set time) = setReply r time .recorder
-after r (reading meter value status seq) = readingReply r meter value status seq .recorder
+after r (sample bits) = sampleReply r bits .after
+after r (set time) = setReply r time .after
+after r (reading meter value status seq) = readingReply r meter value status seq .after
 after r reset = resetReply r
 
 -- the recorder after a history of calls, the newest first

@@ -8,9 +8,10 @@ use image::Register;
 use sampling::clock::cleared;
 use sampling::clock::close_period;
 ghost use mathlib.Core.Path.{_≡_};
+ghost use Rattle.laws.specs.Answers.{replyTo};
 ghost use Rattle.recorder.specs.Clock.{setTo, setOf, closedBill, resetOf};
 ghost use Rattle.recorder.specs.Meters.{readingOf};
-ghost use Rattle.recorder.specs.Calls.{replyTo, setSaid, readingSaid};
+ghost use Rattle.recorder.specs.Calls.{setSaid, readingSaid};
 
 pub enum SetAnswer {
     Set,

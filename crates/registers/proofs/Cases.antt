@@ -6,9 +6,9 @@ use Rattle.recorder.specs.Meters.{classOf}
 use Rattle.registers.specs.Fleet.{meterClass, classAt}
 use Rattle.registers.specs.Contents.{statusShown, serialBytes, meterBytes}
 use Rattle.registers.specs.Registers.{groups, lookUp, registerReply}
-use Rattle.registers.specs.Cases.{Claim, cases}
+use Rattle.registers.specs.Cases.{AgeClaim, ageCases}
 
 -- all of them hold: antt computes both sides of each
-pub cases-hold : Each Claim cases
+pub cases-hold : Each AgeClaim ageCases
 unfolding bytesOf classOf meterClass classAt statusShown serialBytes meterBytes groups lookUp registerReply
 cases-hold = (refl, (refl, (refl, (refl, tt))))

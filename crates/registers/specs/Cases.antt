@@ -43,17 +43,17 @@ heardAt1000 clock =
     }
 
 -- a case of the table: at a time the meter is of a class; at a time its STATUS reads
-pub data Case : Type 0 where
-  class-at : ℕ → ℕ → Case
-  status-at : ℕ → ℕ → Case
+pub data AgeCase : Type 0 where
+  class-at : ℕ → ℕ → AgeCase
+  status-at : ℕ → ℕ → AgeCase
 
 -- what a case claims: of the class, and of the ninth byte of its register
-abbrev pub Claim : Case → Type 0
-Claim (class-at clock class) =
+abbrev pub AgeClaim : AgeCase → Type 0
+AgeClaim (class-at clock class) =
     let r = heardAt1000 clock in
     classAt (r .config .limits) (r .state .meters) (r .state .clock) 0 ≡ class
-Claim (status-at clock status) = getD (registerReply (heardAt1000 clock) 82 0 (replicate 10 0) .buffer) 8 0 ≡ status
+AgeClaim (status-at clock status) = getD (registerReply (heardAt1000 clock) 82 0 (replicate 10 0) .buffer) 8 0 ≡ status
 
 -- line 10: 0 is awake, 1 is stale
-abbrev pub cases : List Case
-cases = class-at 1900 0 ∷ class-at 1901 1 ∷ status-at 1900 6 ∷ status-at 1901 7 ∷ []
+abbrev pub ageCases : List AgeCase
+ageCases = class-at 1900 0 ∷ class-at 1901 1 ∷ status-at 1900 6 ∷ status-at 1901 7 ∷ []

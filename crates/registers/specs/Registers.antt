@@ -6,7 +6,7 @@ use lib.Dec.{leb, eqb}
 use lib.ListN.{length, drop, getD}
 use Rattle.laws.specs.If.{if_then_else_}
 use Rattle.laws.specs.Answers.{Answer, given, refused}
-use Rattle.settings.specs.Rules.{noInput, noSlot, noRegister}
+use Rattle.settings.specs.Rules.{zeroInput, zeroSlot, zeroRegister}
 use Rattle.settings.specs.declared.Config.{Config}
 use Rattle.counting.specs.Filter.{lineAt}
 use Rattle.counting.specs.Bills.{billAt}
@@ -26,13 +26,13 @@ pub record Group : Type 0 where
   pub inUse : Config → ℕ → Bool
   pub holds : Recorder → ℕ → List ℕ
 
--- a line, by its parts
-abbrev line : ℕ → ℕ → ℕ → (Config → ℕ → Bool) → (Recorder → ℕ → List ℕ) → Group
-line number registers bytes inUse holds = record { number = number; registers = registers; bytes = bytes; inUse = inUse; holds = holds }
+-- such a line, by its parts
+abbrev row : ℕ → ℕ → ℕ → (Config → ℕ → Bool) → (Recorder → ℕ → List ℕ) → Group
+row number registers bytes inUse holds = record { number = number; registers = registers; bytes = bytes; inUse = inUse; holds = holds }
 
--- a register that is there always
-abbrev always : Config → ℕ → Bool
-always c i = true
+-- a register that every configuration has
+abbrev inEvery : Config → ℕ → Bool
+inEvery c i = true
 
 -- "8 NOT FITTED: meter .. not in use": one without an age limit
 abbrev meterFitted : Config → ℕ → Bool
@@ -40,28 +40,28 @@ meterFitted c i = not (eqb (getD (c .limits) i 0) 0)
 
 -- "slot .. not in use": an empty one has level 255
 abbrev slotInUse : Config → ℕ → Bool
-slotInUse c i = not (eqb (getD (c .slots) i noSlot .level) 255)
+slotInUse c i = not (eqb (getD (c .slots) i zeroSlot .level) 255)
 
 -- "bill register .. not in use": an unused one has sum 255
 abbrev billInUse : Config → ℕ → Bool
-billInUse c i = not (eqb (getD (c .registers) i noRegister .sum) 255)
+billInUse c i = not (eqb (getD (c .registers) i zeroRegister .sum) 255)
 
 -- "input not in use": one of kind 0
 abbrev inputFitted : Config → ℕ → Bool
-inputFitted c i = not (eqb (getD (c .inputs) i noInput .kind) 0)
+inputFitted c i = not (eqb (getD (c .inputs) i zeroInput .kind) 0)
 
 -- the table: group, registers, bytes, registers in use, what they hold
 unfoldable pub groups : List Group
 groups =
-    line 82 32 10 meterFitted (λ r i. meterBytes (r .config) (r .state) i)
-    ∷ line 89 1 2 always (λ r i. mapBytes (r .config .program) (r .state .clock))
-    ∷ line 90 32 1 always (λ r i. dailyBytes (r .config .program) i (r .state .clock))
-    ∷ line 91 16 1 always (λ r i. weeklyBytes (r .config .program) i (r .state .clock))
-    ∷ line 201 16 13 slotInUse (λ r i. levelBytes (r .state) i)
-    ∷ line 202 16 13 billInUse (λ r i. billBytes (billAt (r .state .bills) i))
-    ∷ line 203 16 4 inputFitted (λ r i. filterBytes (lineAt (r .state .lines) i))
-    ∷ line 204 1 13 always (λ r i. fleetBytes (fleetOf r))
-    ∷ line 206 1 5 always (λ r i. clockBytes (r .state .clock) (r .state .samples))
+    row 82 32 10 meterFitted (λ r i. meterBytes (r .config) (r .state) i)
+    ∷ row 89 1 2 inEvery (λ r i. mapBytes (r .config .program) (r .state .clock))
+    ∷ row 90 32 1 inEvery (λ r i. dailyBytes (r .config .program) i (r .state .clock))
+    ∷ row 91 16 1 inEvery (λ r i. weeklyBytes (r .config .program) i (r .state .clock))
+    ∷ row 201 16 13 slotInUse (λ r i. levelBytes (r .state) i)
+    ∷ row 202 16 13 billInUse (λ r i. billBytes (billAt (r .state .bills) i))
+    ∷ row 203 16 4 inputFitted (λ r i. filterBytes (lineAt (r .state .lines) i))
+    ∷ row 204 1 13 inEvery (λ r i. fleetBytes (fleetOf r))
+    ∷ row 206 1 5 inEvery (λ r i. clockBytes (r .state .clock) (r .state .samples))
     ∷ []
 
 -- the line of a group; 11 NO GROUP where the table has none

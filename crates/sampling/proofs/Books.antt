@@ -23,30 +23,26 @@ use Rattle.tariff.specs.Rules.{forceMapAt}
 use Rattle.settings.specs.declared.Config.{Config}
 use Rattle.settings.specs.declared.Input.{Input}
 use Rattle.settings.specs.declared.Register.{Register}
-use Rattle.counting.specs.Filter.{lineAt, ends, steppedOf, filteredAt}
-use Rattle.counting.specs.ByMask.{runningAt, runningLines, advancedLines, settledUnitsAt, settledOf, fedRegisters, fedAt, fullAt, someFull, bookedAt, amountsBooked, withAmounts}
-use Rattle.counting.specs.Units.{creditIf, unitsIf, creditedAt, unitsAt, creditsOf}
-use Rattle.counting.specs.Bills.{registerAt, billAt, unitAt, namedPart, sumOf, sumAt, sumsOf, registerUnits, feeds, dueOf, fills, billed, dueAt, fillsAt, billedAt, bookedOf}
+use Rattle.counting.specs.Filter.{inputAt, lineAt, filtered, steppedOf}
+use Rattle.counting.specs.ByMask.{runningLines, advancedLines, settledOf, fedRegisters, fedAt, someFull, amountsBooked, withAmounts}
+use Rattle.counting.specs.Units.{creditsOf}
+use Rattle.counting.specs.Bills.{registerAt, billAt, unitAt, sumOf, sumAt, sumsOf, registerUnits, feeds, dueOf, billed, bookedOf}
+use Rattle.counting.specs.Laws.{Ending}
 use Rattle.counting.specs.declared.Line.{Line}
 use Rattle.counting.specs.declared.Bill.{Bill}
-use Rattle.counting.proofs.Parts.{settled-lines, brought, none-settled, none-brought, full-parts, bills-parts}
+use Rattle.counting.proofs.Parts.{lines-by-mask, none-settled, none-brought, full-by-mask, bills-by-mask}
 use Rattle.sampling.specs.Samples.{bookingOf}
-use Rattle.sampling.specs.Kept.{InForce, fedAtClock, restoredAt, restoredLines}
+use Rattle.sampling.specs.Kept.{InForce, fedAtClock, restoredLines}
 use Rattle.sampling.specs.declared.booking.Tariffs.{Tariffs}
 
--- a register that gets nothing is not filled
-none-fills : (bill : Bill) → fills bill 0 ≡ false
-unfolding fills
-none-fills bill = refl
-
--- and stays as it is
+-- a register that gets nothing stays as it is
 none-billed : (bill : Bill) → billed bill 0 ≡ bill
 unfolding billed
-none-billed bill = rw (none-fills bill, add-zero)
+none-billed bill = rw add-zero
 
 -- without units no sum has any
 no-sum : (sums units : List ℕ) → ((i : ℕ) → i < 16 → unitAt units i ≡ 0) → (k : ℕ) → sumAt sums units k ≡ 0
-unfolding sumAt sumOf namedPart
+unfolding sumAt sumOf
 no-sum sums units none k = total-zero 16 _ (λ i l. rw (none i l) (if-same (bitAt (getD sums k 0) i) 0))
 
 -- so no register has any
@@ -59,27 +55,28 @@ no-units register sums units none =
 
 -- and nothing is due
 no-due : (registers : List Register) (map : ℕ) (sums units : List ℕ) → ((i : ℕ) → i < 16 → unitAt units i ≡ 0) → (j : ℕ)
-    → dueAt registers map (sumsOf sums units) j ≡ 0
-unfolding dueAt dueOf
+    → dueOf (registerAt registers j) map (sumsOf sums units) ≡ 0
+unfolding dueOf
 no-due registers map sums units none j = rw (no-units (registerAt registers j) sums units none) (if-same (feeds (registerAt registers j) map) 0)
 
 -- a mask of no impulses credits no line
 no-credit : (inputs : List Input) (lines : List Line) → length lines ≡ 16 → creditsOf inputs lines 0 .lines ≡ lines
-unfolding creditsOf creditedAt creditIf
-no-credit inputs lines size = table-cong 16 (creditedAt inputs lines 0) (lineAt lines) (λ i l. rw (bit-zero i)) ∙ table-self 16 lines _ size
+unfolding creditsOf
+no-credit inputs lines size = table-cong 16 _ (lineAt lines) (λ i l. rw (bit-zero i)) ∙ table-self 16 lines _ size
 
 -- and brings no units
 no-credit-units : (inputs : List Input) (lines : List Line) (i : ℕ) → i < 16 → unitAt (creditsOf inputs lines 0 .units) i ≡ 0
-unfolding creditsOf unitsAt unitsIf
-no-credit-units inputs lines i l = table-at 16 (unitsAt inputs lines 0) i 0 l ∙ rw (bit-zero i)
+unfolding creditsOf
+no-credit-units inputs lines i l = table-at 16 _ i 0 l ∙ rw (bit-zero i)
 
 -- without units no register is full, and the bills stay as they are
 nothing-booked : (registers : List Register) (bills : List Bill) (map : ℕ) (sums units : List ℕ) → length bills ≡ 16
     → ((i : ℕ) → i < 16 → unitAt units i ≡ 0) → bookedOf registers bills map (sumsOf sums units) ≡ record { full = false; bills = bills }
-unfolding bookedOf fillsAt billedAt
+unfolding bookedOf
 nothing-booked registers bills map sums units size none =
-    let full = any-none 16 (fillsAt registers bills map (sumsOf sums units)) (λ j l. rw (no-due registers map sums units none j) (none-fills (billAt bills j))) in
-    let same = table-cong 16 (billedAt registers bills map (sumsOf sums units)) (billAt bills) (λ j l. rw (no-due registers map sums units none j) (none-billed (billAt bills j))) ∙ table-self 16 bills _ size in
+    let booked = bookedOf registers bills map (sumsOf sums units) in
+    let full : booked .full ≡ false = any-none 16 _ (λ j l. rw (no-due registers map sums units none j)) in
+    let same : booked .bills ≡ bills = table-cong 16 _ (billAt bills) (λ j l. rw (no-due registers map sums units none j) (none-billed (billAt bills j))) ∙ table-self 16 bills _ size in
     (λ i. record { full = full i; bills = same i })
 
 -- a sample with no impulse changes the lines by the filter alone, and no bill
@@ -87,8 +84,8 @@ pub no-impulse : (c : Config) (clock : ℕ) (lines : List Line) (bills : List Bi
     → length bills ≡ 16 → record { full = false; lines = steppedOf (c .inputs) lines mask .lines; bills = bills } ≡ bookingOf c clock lines bills mask
 unfolding bookingOf steppedOf
 no-impulse c clock lines bills mask e size =
-    let filtered = table 16 (filteredAt (c .inputs) lines mask) in
-    rw (← e, no-credit (c .inputs) filtered (length-table 16 _), nothing-booked (c .registers) bills (forceMapAt (c .program) clock) (c .sums) _ size (no-credit-units (c .inputs) filtered))
+    let stepped = table 16 (λ i. filtered (inputAt (c .inputs) i) (lineAt lines i) (bitAt mask i)) in
+    rw (← e, no-credit (c .inputs) stepped (length-table 16 _), nothing-booked (c .registers) bills (forceMapAt (c .program) clock) (c .sums) _ size (no-credit-units (c .inputs) stepped))
 
 -- no register gets any
 no-fed : (registers : List Register) (fed : ℕ) (sums units : List ℕ) → ((i : ℕ) → i < 16 → unitAt units i ≡ 0) → (j : ℕ) → fedAt registers fed (sumsOf sums units) j ≡ 0
@@ -98,15 +95,15 @@ no-fed registers fed sums units none j = rw (no-units (registerAt registers j) s
 module _ (registers : List Register) (amounts : List ℕ) (fed : ℕ) (sums units : List ℕ) (none : (i : ℕ) → i < 16 → unitAt units i ≡ 0) where
   -- so none would be full
   pub none-full : someFull registers amounts fed (sumsOf sums units) ≡ false
-  unfolding someFull fullAt
-  none-full = any-none 16 (fullAt registers amounts fed (sumsOf sums units)) (λ j l. rw (no-fed registers fed sums units none j))
+  unfolding someFull
+  none-full = any-none 16 _ (λ j l. rw (no-fed registers fed sums units none j))
 
   -- and the amounts stay as they are
   pub same-amounts : length amounts ≡ 16 → amountsBooked registers amounts fed (sumsOf sums units) ≡ amounts
-  unfolding amountsBooked bookedAt
+  unfolding amountsBooked
   same-amounts size =
       rw none-full
-      (table-cong 16 (bookedAt registers amounts fed (sumsOf sums units)) (unitAt amounts) (λ j l. rw (no-fed registers fed sums units none j) (add-zero (unitAt amounts j))) ∙ table-self 16 amounts 0 size)
+      (table-cong 16 _ (unitAt amounts) (λ j l. rw (no-fed registers fed sums units none j) (add-zero (unitAt amounts j))) ∙ table-self 16 amounts 0 size)
 
 -- a run that is there and a line that is not active
 not-both : (r a : Bool) → either r (r && a) ≡ (not a && r)
@@ -120,10 +117,10 @@ module _ (c : Config) (clock : ℕ) (lines : List Line) (bills : List Bill) (amo
   -- a line with a run
   running-bit : (i : ℕ) → i < 16 → bitAt running i ≡ ltb 0 (lineAt lines i .run)
   unfolding runningLines
-  running-bit i l = ap (λ m. bitAt m i) runs-are ∙ (bit-at 16 (runningAt lines) i ∙ rw (lt-ltb i 16 l))
+  running-bit i l = ap (λ m. bitAt m i) runs-are ∙ (bit-at 16 _ i ∙ rw (lt-ltb i 16 l))
 
   -- a line whose run ends
-  ending-bit : (i : ℕ) → i < 16 → bitAt ending i ≡ ends (lineAt lines i) (bitAt mask i)
+  ending-bit : Ending lines mask ending
   ending-bit i l = rw (end-are, bit-xor running (bitAnd running mask) i, bit-and running mask i, running-bit i l) (not-both (ltb 0 (lineAt lines i .run)) (bitAt mask i))
 
   module _ (units : List ℕ) (fed : ℕ) (brings : units ≡ settledOf (c .inputs) lines ending .units) (in-force : fed ≡ fedAtClock c clock) where
@@ -131,8 +128,8 @@ module _ (c : Config) (clock : ℕ) (lines : List Line) (bills : List Bill) (amo
     pub full-booking : bookingOf c clock lines (withAmounts bills amounts) mask .full ≡ someFull (c .registers) amounts fed (sumsOf (c .sums) units)
     unfolding bookingOf
     full-booking =
-        rw (in-force, brings, brought (c .inputs) lines mask ending ending-bit)
-        (full-parts (c .registers) bills amounts (forceMapAt (c .program) clock) (sumsOf (c .sums) (settledOf (c .inputs) lines ending .units)))
+        rw (in-force, brings, lines-by-mask (c .inputs) lines mask ending ending-bit .1)
+        (full-by-mask (c .registers) bills amounts (forceMapAt (c .program) clock) (sumsOf (c .sums) (settledOf (c .inputs) lines ending .units)))
 
     -- what one that fills none books
     pub whole-booking : (left : List Line) → left ≡ settledOf (c .inputs) lines ending .lines → someFull (c .registers) amounts fed (sumsOf (c .sums) units) ≡ false
@@ -142,13 +139,12 @@ module _ (c : Config) (clock : ℕ) (lines : List Line) (bills : List Bill) (amo
     whole-booking left settles none =
         let map = forceMapAt (c .program) clock in
         let sums = sumsOf (c .sums) (settledOf (c .inputs) lines ending .units) in
-        let same-units = brought (c .inputs) lines mask ending ending-bit in
-        let same-lines = settled-lines (c .inputs) lines mask ending ending-bit in
+        let same = lines-by-mask (c .inputs) lines mask ending ending-bit in
         let empty : someFull (c .registers) amounts (fedRegisters (c .registers) map) sums ≡ false = rw (in-force, brings) at none in
-        let full = full-parts (c .registers) bills amounts map sums ∙ empty in
-        let same = bills-parts (c .registers) bills amounts map sums empty in
-        rw (in-force, brings, settles, same-units, same-lines)
-        (λ i. record { full = sym full i; lines = advancedLines (settledOf (c .inputs) lines ending .lines) mask; bills = sym same i })
+        let full = full-by-mask (c .registers) bills amounts map sums ∙ empty in
+        let booked = bills-by-mask (c .registers) bills amounts map sums empty in
+        rw (in-force, brings, settles, same .1, same .0)
+        (λ i. record { full = sym full i; lines = advancedLines (settledOf (c .inputs) lines ending .lines) mask; bills = sym booked i })
 
   -- what a sample that fills no register leaves before the runs go on: the lines, the amounts and the tariffs
   pub record Left (left : List Line) (open-amounts : List ℕ) (tariffs : Tariffs) : Type 0 where
@@ -192,7 +188,7 @@ still-none units i v here z none j l =
 -- lines that do not stand in a mask, and those of it put back, are the lines as they were
 pub put-back : (was lines old : List Line) (f : ℕ → Line) (blank : Line) (mask : ℕ) → length was ≡ 16 → lines ≡ table 16 (λ i. if bitAt mask i then f i else lineAt was i)
     → old ≡ table 16 (λ i. if bitAt mask i then lineAt was i else blank) → restoredLines lines old mask ≡ was
-unfolding restoredLines restoredAt
+unfolding restoredLines
 put-back was lines old f blank mask size settles keeps =
     table-cong 16 _ (lineAt was)
     (λ i l.
@@ -202,14 +198,14 @@ put-back was lines old f blank mask size settles keeps =
 
 -- only the lines whose runs end bring units
 pub others-none : (inputs : List Input) (lines : List Line) (ending : ℕ) (i : ℕ) → i < 16 → bitAt ending i ≡ false → unitAt (settledOf inputs lines ending .units) i ≡ 0
-unfolding settledOf settledUnitsAt
-others-none inputs lines ending i l e = rw (table-at 16 (settledUnitsAt inputs lines ending) i 0 l, e)
+unfolding settledOf
+others-none inputs lines ending i l e = table-at 16 _ i 0 l ∙ rw e
 
 -- the mask of the runs that end has 16 bits
 pub ending-below : (lines : List Line) (running mask : ℕ) → running ≡ runningLines lines → bitXor running (bitAnd running mask) < 2 ^ 16
 unfolding runningLines
 ending-below lines running mask e =
-    let below : running < 2 ^ 16 = rw e (mask-below 16 (runningAt lines)) in
+    let below : running < 2 ^ 16 = rw e (mask-below 16 _) in
     xor-lt 16 running (bitAnd running mask) below (lt-of-le-of-lt (and-le-l running mask) below)
 
 -- where a register would be full, the amounts stay as they are

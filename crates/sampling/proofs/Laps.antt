@@ -12,10 +12,10 @@ use lib.Seq.{drop-cons, drop-length}
 use borrow.Author.Tests.{ne-eqb}
 use Rattle.laws.specs.If.{if_then_else_}
 use Rattle.laws.proofs.Tests.{by-test}
-use Rattle.laws.specs.Answers.{Answer, given, refused}
+use Rattle.laws.specs.Answers.{Answer, given, refused, RunReply}
 use Rattle.settings.specs.declared.Config.{Config}
 use Rattle.sampling.specs.Periods.{multiple, tickOf}
-use Rattle.sampling.specs.Samples.{bookingOn, countedOf, clockEnd, sampleOf, Run, onward, samplesOf}
+use Rattle.sampling.specs.Samples.{bookingOn, countedOf, clockEnd, sampleOf, onward, samplesOf}
 use Rattle.sampling.specs.Laps.{countedOpen, sampleOpen, closing, closedHere, LapReply, oneMoreTaken, lapOn, lapOf}
 use Rattle.sampling.specs.declared.State.{State}
 
@@ -68,24 +68,24 @@ sample-closes c s bits =
     (λ h. rw (e, f, h, ne-eqb (s .samples + 1) 0 (λ z. omega arith)))))
 
 -- the samples of a run that went before, counted in
-abbrev pub later : ℕ → Run → Run
-later k r = record { taken = k + r .taken; number = r .number; state = r .state }
+abbrev pub later : ℕ → RunReply State → RunReply State
+later k r = record { taken = k + r .taken; number = r .number; after = r .after }
 
 -- a run to the first closing, the closing, and the rest of the samples
-abbrev pub joined : Config → List ℕ → LapReply → Run
+abbrev pub joined : Config → List ℕ → LapReply → RunReply State
 joined c bits t =
     if t .closes then later (t .taken) (samplesOf c (closedHere c (t .state)) (drop (t .taken) bits))
-    else record { taken = t .taken; number = t .number; state = t .state }
+    else record { taken = t .taken; number = t .number; after = t .state }
 
 -- one sample in front of a joined run
 one-more : (c : Config) (b : ℕ) (more : List ℕ) (t : LapReply)
-    → record { taken = suc (joined c more t .taken); number = joined c more t .number; state = joined c more t .state } ≡ joined c (b ∷ more) (oneMoreTaken t)
+    → record { taken = suc (joined c more t .taken); number = joined c more t .number; after = joined c more t .after } ≡ joined c (b ∷ more) (oneMoreTaken t)
 one-more c b more t =
     by-test (t .closes)
     (λ e.
     let r = samplesOf c (closedHere c (t .state)) (drop (t .taken) more) in
     let count : suc (t .taken + r .taken) ≡ suc (t .taken) + r .taken = omega arith in
-    rw e (λ i. record { taken = count i; number = r .number; state = r .state }))
+    rw e (λ i. record { taken = count i; number = r .number; after = r .after }))
     (λ e. rw e)
 
 -- a run goes on after its first sample, with the closing that it brings
@@ -97,7 +97,7 @@ first-on c s b more on (given next) =
     (λ e.
     let r = samplesOf c (closedHere c next) more in
     let count : suc (r .taken) ≡ 1 + r .taken = omega arith in
-    rw e (λ i. record { taken = count i; number = r .number; state = r .state }))
+    rw e (λ i. record { taken = count i; number = r .number; after = r .after }))
     (λ e. rw (e, on next) (one-more c b more (lapOf c next more)))
 
 -- a run of samples is a run to the first closing, the closing, and the rest
@@ -141,7 +141,7 @@ closes-unrefused c s (b ∷ more) e = first-unrefused c s (sampleOpen c s b) (λ
 
 module _ (c : Config) (s : State) (bits : List ℕ) (t : LapReply) (is : lapOf c s bits ≡ t) where
   -- a run to its end
-  pub run-ends : t .closes ≡ false → samplesOf c s bits ≡ record { taken = t .taken; number = t .number; state = t .state }
+  pub run-ends : t .closes ≡ false → samplesOf c s bits ≡ record { taken = t .taken; number = t .number; after = t .state }
   run-ends e = by-laps c s bits ∙ rw (is, e)
 
   -- a run to a closing, the closing, and the rest
@@ -149,12 +149,12 @@ module _ (c : Config) (s : State) (bits : List ℕ) (t : LapReply) (is : lapOf c
   run-closes e = by-laps c s bits ∙ rw (is, e)
 
 -- samples that went before, counted in twice
-pub later-later : (k n : ℕ) (r : Run) → later k (later n r) ≡ later (k + n) r
-later-later k n r = let e : k + (n + r .taken) ≡ k + n + r .taken = omega arith in (λ i. record { taken = e i; number = r .number; state = r .state })
+pub later-later : (k n : ℕ) (r : RunReply State) → later k (later n r) ≡ later (k + n) r
+later-later k n r = let e : k + (n + r .taken) ≡ k + n + r .taken = omega arith in (λ i. record { taken = e i; number = r .number; after = r .after })
 
 -- a run of one sample that ends with a closing
 pub one-closes : (c : Config) (s : State) (bits : ℕ) (t : LapReply) → lapOf c s (bits ∷ []) ≡ t → t .closes ≡ true
-    → samplesOf c s (bits ∷ []) ≡ record { taken = t .taken; number = t .number; state = closedHere c (t .state) }
+    → samplesOf c s (bits ∷ []) ≡ record { taken = t .taken; number = t .number; after = closedHere c (t .state) }
 unfolding samplesOf
 one-closes c s bits t is e =
     let most : t .taken ≤ 1 = rw is at (taken-within c s (bits ∷ [])) in

@@ -2,7 +2,7 @@
 use mathlib.Core.Path.{_≡_, refl, sym, ap, _∙_}
 use mathlib.Core.Bool.{Bool, true, false, not, _&&_, _||_, and-true, and-false}
 use mathlib.Core.List.{List}
-use Prim.Native.Nat.{ℕ, zero, suc, _+_, _-_, _%_, _^_, _<_, _≤_}
+use Prim.Native.Nat.{ℕ, zero, suc, _+_, _%_, _^_, _<_, _≤_}
 use native.Mathlib.Nat.{add-zero, lt-of-le-of-lt}
 use native.Mathlib.Omega.{arith}
 use lib.Dec.{ltb, leb, eqb}
@@ -14,13 +14,11 @@ use Rattle.laws.specs.Answers.{given, refused}
 use Rattle.laws.specs.Masks.{maskOf, bitAt}
 use Rattle.laws.proofs.Masks.{bit-at, bit-zero, mask-below, mask-cong, mask-ext, mask-zero}
 use Rattle.laws.proofs.BitTests.{either, bit-and, bit-or, bit-xor}
-use Rattle.laws.specs.Tables.{table}
-use Rattle.laws.proofs.Tables.{table-at, table-cong, table-self}
+use Rattle.laws.proofs.Tables.{table-cong, table-self}
 use Rattle.settings.specs.declared.Config.{Config}
 use Rattle.settings.specs.declared.Input.{Input}
-use Rattle.counting.specs.Filter.{inputAt, lineAt, active, nextRun, ends, fitting, oneMore, accepted, filtered, filteredAt, acceptedAt, steppedOf}
-use Rattle.counting.specs.ByMask.{kindAt, kindMask, runningAt, runningLines, fedRegisters}
-use Rattle.counting.specs.Units.{credited, creditIf, creditedAt, creditsOf}
+use Rattle.counting.specs.Filter.{inputAt, lineAt, active, nextRun, accepted, filtered, steppedOf}
+use Rattle.counting.specs.ByMask.{kindMask, runningLines, fedRegisters}
 use Rattle.tariff.proofs.Laws.{next-same}
 use Rattle.sampling.specs.Kept.{InForce, agedTo}
 use Rattle.sampling.specs.declared.booking.Tariffs.{Tariffs}
@@ -29,6 +27,7 @@ use Rattle.sampling.specs.Laps.{countedOpen, sampleOpen, closing, lapOf}
 use Rattle.counting.specs.declared.Line.{Line}
 use Rattle.counting.specs.declared.Bill.{Bill}
 use Rattle.sampling.specs.declared.State.{State}
+use Rattle.counting.proofs.Lines.{passed-run, line-after}
 use Rattle.sampling.proofs.Books.{no-impulse}
 use Rattle.sampling.proofs.Laps.{after, goes-on}
 
@@ -54,12 +53,12 @@ by-kind kind b =
 -- bit i of the inputs of a kind
 kind-bit : (inputs : List Input) (kind i : ℕ) → i < 16 → bitAt (kindMask inputs kind) i ≡ eqb (inputAt inputs i .kind) kind
 unfolding kindMask
-kind-bit inputs kind i l = bit-at 16 (kindAt inputs kind) i ∙ rw (lt-ltb i 16 l)
+kind-bit inputs kind i l = bit-at 16 _ i ∙ rw (lt-ltb i 16 l)
 
 -- a mask of kinds has 16 bits
 kind-below : (inputs : List Input) (kind : ℕ) → kindMask inputs kind < 2 ^ 16
 unfolding kindMask
-kind-below inputs kind = mask-below 16 (kindAt inputs kind)
+kind-below inputs kind = mask-below 16 _
 
 -- the code's mask of active lines is the definition's
 pub active-mask : (inputs : List Input) (bits s1a s1r fitted : ℕ) → s1a ≡ kindMask inputs 1 → s1r ≡ kindMask inputs 2 → fitted ≡ bitOr s1a s1r
@@ -76,7 +75,7 @@ active-mask inputs bits s1a s1r fitted a r f =
 filter-idle : (input : Input) (line : Line) → line .run ≡ 0 → filtered input line false ≡ line
 unfolding filtered
 filter-idle input line e =
-    let same : oneMore (line .rejected) (ends line false && not (fitting input line)) ≡ line .rejected = rw e in
+    let same : filtered input line false .rejected ≡ line .rejected = rw e in
     (λ i. record { run = sym e i; rejected = same i; remainder = line .remainder; units = line .units })
 
 -- and brings no impulse
@@ -87,7 +86,7 @@ accept-idle input line e = rw e
 -- where no line has a run, none has
 no-run : (lines : List Line) → runningLines lines ≡ 0 → (i : ℕ) → i < 16 → lineAt lines i .run ≡ 0
 unfolding runningLines
-no-run lines e i l = let none = ltb-false 0 (lineAt lines i .run) (mask-zero 16 (runningAt lines) e i l) in omega arith
+no-run lines e i l = let none = ltb-false 0 (lineAt lines i .run) (mask-zero 16 _ e i l) in omega arith
 
 -- a booking of nothing
 abbrev quietly : List Bill → List Line → Booking
@@ -96,16 +95,16 @@ quietly bills lines = record { full = false; lines = lines; bills = bills }
 module _ (c : Config) (clock : ℕ) (lines : List Line) (bills : List Bill) (e : runningLines lines ≡ 0) where
   -- with no line active and no run there is no impulse
   idle-impulses : 0 ≡ steppedOf (c .inputs) lines 0 .impulses
-  unfolding steppedOf acceptedAt
+  unfolding steppedOf
   idle-impulses =
-      mask-ext 16 0 (acceptedAt (c .inputs) lines 0) (omega arith)
+      mask-ext 16 0 _ (omega arith)
       (λ i l. rw (bit-zero i) (sym (accept-idle (inputAt (c .inputs) i) (lineAt lines i) (no-run lines e i l))))
 
   -- and the filter changes no line
   idle-lines : length lines ≡ 16 → steppedOf (c .inputs) lines 0 .lines ≡ lines
-  unfolding steppedOf filteredAt
+  unfolding steppedOf
   idle-lines size =
-      table-cong 16 (filteredAt (c .inputs) lines 0) (lineAt lines)
+      table-cong 16 _ (lineAt lines)
       (λ i l. rw (bit-zero i) (filter-idle (inputAt (c .inputs) i) (lineAt lines i) (no-run lines e i l)))
       ∙ table-self 16 lines _ size
 
@@ -120,32 +119,16 @@ run-after : (run : ℕ) (on : Bool) → ltb 0 (nextRun run on) ≡ on
 run-after run true = by-test (ltb run 256) (λ e. rw e (lt-ltb 0 (run + 1) (omega arith))) (λ e. rw e)
 run-after run false = refl
 
--- an impulse leaves the run
-run-credited : (input : Input) (line : Line) (on : Bool) → creditIf input line on .run ≡ line .run
-unfolding creditIf credited
-run-credited input line true = refl
-run-credited input line false = refl
-
--- line i has a run after a sample if it is active
-run-at : (inputs : List Input) (lines : List Line) (bits impulses i : ℕ) → i < 16
-    → ltb 0 (creditedAt inputs (table 16 (filteredAt inputs lines (maskOf 16 (activeAt inputs bits)))) impulses i .run) ≡ activeAt inputs bits i
-unfolding creditedAt filteredAt filtered
-run-at inputs lines bits impulses i l =
-    let mask = maskOf 16 (activeAt inputs bits) in
-    let stepped = table 16 (filteredAt inputs lines mask) in
-    rw (run-credited (inputAt inputs i) (lineAt stepped i) (bitAt impulses i), table-at 16 (filteredAt inputs lines mask) i _ l)
-    (run-after (lineAt lines i .run) (bitAt mask i) ∙ (bit-at 16 (activeAt inputs bits) i ∙ rw (lt-ltb i 16 l)))
-
 -- the lines with a run after a sample are the active ones
 pub runs-after : (c : Config) (clock : ℕ) (lines : List Line) (bills : List Bill) (bits : ℕ)
     → runningLines (bookingOf c clock lines bills (activeLines (c .inputs) bits) .lines) ≡ activeLines (c .inputs) bits
-unfolding runningLines bookingOf creditsOf steppedOf activeLines
+unfolding runningLines bookingOf activeLines
 runs-after c clock lines bills bits =
     let mask = maskOf 16 (activeAt (c .inputs) bits) in
-    let impulses = maskOf 16 (acceptedAt (c .inputs) lines mask) in
-    let stepped = table 16 (filteredAt (c .inputs) lines mask) in
-    mask-cong 16 (runningAt (table 16 (creditedAt (c .inputs) stepped impulses))) (activeAt (c .inputs) bits)
-    (λ i l. rw (table-at 16 (creditedAt (c .inputs) stepped impulses) i _ l) (run-at (c .inputs) lines bits impulses i l))
+    mask-cong 16 _ (activeAt (c .inputs) bits)
+    (λ i l.
+    rw (line-after (c .inputs) lines mask i l, passed-run (inputAt (c .inputs) i) (lineAt lines i) (bitAt mask i))
+    (run-after (lineAt lines i .run) (bitAt mask i) ∙ (bit-at 16 (activeAt (c .inputs) bits) i ∙ rw (lt-ltb i 16 l))))
 
 -- a sample that does not step the clock brings no closing
 pub counts-on : (c : Config) (rest : State) (clock count : ℕ) (lines : List Line) (bills : List Bill) → closing c (putIn rest clock (count + 1) lines bills) ≡ false

@@ -2,11 +2,13 @@
 use mathlib.Core.Path.{_≡_, refl, sym, ap, _∙_}
 use Prim.Native.Nat.{ℕ}
 use lib.Dec.{eqb}
+use Rattle.laws.specs.Answers.{RunReply}
 use Rattle.laws.specs.If.{if_then_else_}
 use Rattle.laws.specs.Unique.{OneResult}
 use Rattle.laws.proofs.Unique.{told-apart}
-use Rattle.sampling.specs.Samples.{sampleNumber, Run, takenSaid}
+use Rattle.sampling.specs.Samples.{sampleNumber, takenSaid}
 use Rattle.sampling.specs.Laps.{LapReply}
+use Rattle.sampling.specs.declared.State.{State}
 use Rattle.sampling.specs.declared.samples.Taking.{Taking}
 use Rattle.sampling.specs.declared.SampleAnswer.{SampleAnswer}
 use Rattle.sampling.specs.declared.SampleAnswer.the-variants.{Taken, ClockEnd, Full}
@@ -50,9 +52,9 @@ take-once κs a x y e f p q =
 -- two answers to a run that say the same are the same
 same-taking : (x y : Taking) → takenSaid x ≡ takenSaid y → x ≡ y
 same-taking x y s =
-    let state = ap (λ (r : Run). r .state) s in
-    let taken = ap (λ (r : Run). r .taken) s in
-    let answer = sample-apart (x .answer) (y .answer) (ap (λ (r : Run). r .number) s) in
+    let state = ap (λ (r : RunReply State). r .after) s in
+    let taken = ap (λ (r : RunReply State). r .taken) s in
+    let answer = sample-apart (x .answer) (y .answer) (ap (λ (r : RunReply State). r .number) s) in
     (λ i. record { state = state i; taken = taken i; answer = answer i })
 
 pub run-once : OneResult run-reads.Post

@@ -34,13 +34,9 @@ pub record Brings (units : List ℕ) (ending brought : ℕ) : Type 0 where
   pub others : (i : ℕ) → i < 16 → bitAt ending i ≡ false → unitAt units i ≡ 0
   pub none : brought ≡ 0 → (i : ℕ) → i < 16 → unitAt units i ≡ 0
 
--- line i, as it was if it is in the mask
-unfoldable pub restoredAt : List Line → List Line → ℕ → ℕ → Line
-restoredAt lines old mask i = if bitAt mask i then lineAt old i else lineAt lines i
-
 -- the lines with those of a mask as they were
 unfoldable pub restoredLines : List Line → List Line → ℕ → List Line
-restoredLines lines old mask = table 16 (restoredAt lines old mask)
+restoredLines lines old mask = table 16 (λ i. if bitAt mask i then lineAt old i else lineAt lines i)
 
 -- no line is active in the n samples from k on
 abbrev pub Idle : List ℕ → ℕ → ℕ → ℕ → ℕ → Type 0

@@ -6,15 +6,14 @@ use lib.Dec.{leb, eqb}
 use Rattle.laws.specs.If.{if_then_else_}
 use Rattle.laws.specs.Answers.{Answer, given, refused}
 use Rattle.settings.specs.declared.Config.{Config}
-use Rattle.sampling.specs.Periods.{multiple, closedAs, stateOf, closedWith}
-use Rattle.sampling.specs.Samples.{bookingOn, putIn, clockEnd, sampleNumber}
+use Rattle.sampling.specs.Periods.{multiple, closedAs, stateOf, atClock, closedWith}
+use Rattle.sampling.specs.Samples.{bookingOn, withBooking, oneSampleMore, clockEnd, sampleNumber}
 use Rattle.sampling.specs.declared.State.{State}
 use Rattle.sampling.specs.declared.samples.Lap.{Lap}
 
 -- one more sample of the second; after the hundredth the clock steps, and the period stays open
 unfoldable pub countedOpen : State → State
-countedOpen s =
-    if leb 99 (s .samples) then putIn s (s .clock + 1) 0 (s .lines) (s .bills) else putIn s (s .clock) (s .samples + 1) (s .lines) (s .bills)
+countedOpen s = if leb 99 (s .samples) then atClock s (s .clock + 1) else oneSampleMore s
 
 -- a sample, but for the closing that it may bring
 unfoldable pub sampleOpen : Config → State → ℕ → Answer State
@@ -22,7 +21,7 @@ sampleOpen c s bits =
     let b = bookingOn c s bits in
     if clockEnd s then refused 5 0
     else if b .full then refused 6 0
-    else given (countedOpen (putIn s (s .clock) (s .samples) (b .lines) (b .bills)))
+    else given (countedOpen (withBooking s b))
 
 -- after a sample a period is to close: the clock has stepped, onto a multiple
 abbrev pub closing : Config → State → Bool

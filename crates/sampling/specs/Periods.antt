@@ -21,13 +21,9 @@ multiple period time = if eqb (period * 60) 0 then false else eqb (time % (perio
 unfoldable pub begunAnew : Line → Line
 begunAnew line = record { run = line .run; rejected = line .rejected; remainder = line .remainder; units = 0 }
 
--- line i at the start of a period
-unfoldable pub clearedAt : List Line → ℕ → Line
-clearedAt lines i = begunAnew (lineAt lines i)
-
--- all lines at the start of a period
+-- all lines at the start of a period: only level 0 begins anew
 unfoldable pub clearedLines : List Line → List Line
-clearedLines lines = table 16 (clearedAt lines)
+clearedLines lines = table 16 (λ i. begunAnew (lineAt lines i))
 
 -- a period as it closes: state, closing time, and the chosen values of its levels
 unfoldable pub closedAs : Config → ℕ → ℕ → List Line → Period

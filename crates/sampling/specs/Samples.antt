@@ -4,7 +4,7 @@ use mathlib.Core.List.{List, [], _∷_}
 use Prim.Native.Nat.{ℕ, suc, _+_}
 use lib.Dec.{leb, eqb}
 use Rattle.laws.specs.If.{if_then_else_}
-use Rattle.laws.specs.Answers.{Answer, given, refused}
+use Rattle.laws.specs.Answers.{Answer, given, refused, RunReply}
 use Rattle.laws.specs.Masks.{maskOf, bitAt}
 use Rattle.tariff.specs.Rules.{forceMapAt}
 use Rattle.settings.specs.declared.Config.{Config}
@@ -60,9 +60,17 @@ putIn s clock samples lines bills =
       closed = s .closed;
     }
 
+-- a state with what a sample books
+abbrev pub withBooking : State → Booking → State
+withBooking s b = putIn s (s .clock) (s .samples) (b .lines) (b .bills)
+
+-- a state with one more sample in its second
+abbrev pub oneSampleMore : State → State
+oneSampleMore s = putIn s (s .clock) (s .samples + 1) (s .lines) (s .bills)
+
 -- one more sample of the second; after the hundredth the clock steps
 unfoldable pub countedOf : Config → State → State
-countedOf c s = if leb 99 (s .samples) then tickOf c s else putIn s (s .clock) (s .samples + 1) (s .lines) (s .bills)
+countedOf c s = if leb 99 (s .samples) then tickOf c s else oneSampleMore s
 
 -- 5 CLOCK END: the hundredth sample in the last second
 abbrev pub clockEnd : State → Bool
@@ -74,22 +82,16 @@ sampleOf c s bits =
     let b = bookingOn c s bits in
     if clockEnd s then refused 5 0
     else if b .full then refused 6 0
-    else given (countedOf c (putIn s (s .clock) (s .samples) (b .lines) (b .bills)))
-
--- a run of samples: how many were taken, the number of the refusal that ended it or 0, and the state after it
-pub record Run : Type 0 where
-  pub taken : ℕ
-  pub number : ℕ
-  pub state : State
+    else given (countedOf c (withBooking s b))
 
 -- a run goes on after a sample that was taken, and ends at one that was refused
-abbrev pub onward : State → Answer State → (State → Run) → Run
-onward s (given next) rest = record { taken = suc (rest next .taken); number = rest next .number; state = rest next .state }
-onward s (refused n offset) rest = record { taken = 0; number = n; state = s }
+abbrev pub onward : State → Answer State → (State → RunReply State) → RunReply State
+onward s (given next) rest = record { taken = suc (rest next .taken); number = rest next .number; after = rest next .after }
+onward s (refused n offset) rest = record { taken = 0; number = n; after = s }
 
 -- samples one after another, up to the first refusal
-unfoldable pub samplesOf : Config → State → List ℕ → Run
-samplesOf c s [] = record { taken = 0; number = 0; state = s }
+unfoldable pub samplesOf : Config → State → List ℕ → RunReply State
+samplesOf c s [] = record { taken = 0; number = 0; after = s }
 samplesOf c s (bits ∷ more) = onward s (sampleOf c s bits) (λ next. samplesOf c next more)
 
 -- document 01's number of an answer; 0 where the sample was taken
@@ -99,5 +101,5 @@ sampleNumber ClockEnd = 5
 sampleNumber Full = 6
 
 -- what the code's answer to a run says
-abbrev pub takenSaid : Taking → Run
-takenSaid t = record { taken = t .taken; number = sampleNumber (t .answer); state = t .state }
+abbrev pub takenSaid : Taking → RunReply State
+takenSaid t = record { taken = t .taken; number = sampleNumber (t .answer); after = t .state }

@@ -9,7 +9,7 @@ use lib.IntN.{pos}
 use Rattle.laws.specs.If.{if_then_else_}
 use Rattle.laws.specs.Broken.{firstBroken}
 use Rattle.laws.specs.Answers.{Answer, given, refused}
-use Rattle.settings.specs.Rules.{periodGood, inputGood, fittedIn, sumGood, coefficientGood, slotGood, windowGood, weekGood, seasonGood, holidayGood, ruleGood, registerGood, noInput, noSlot, noWindow, noSeason, noHoliday, noRule, noRegister}
+use Rattle.settings.specs.Rules.{periodGood, inputGood, fittedIn, sumGood, coefficientGood, slotGood, windowGood, weekGood, seasonGood, holidayGood, ruleGood, registerGood, zeroInput, zeroSlot, zeroWindow, zeroSeason, zeroHoliday, zeroRule, zeroRegister}
 use Rattle.settings.specs.declared.Config.{Config}
 
 -- a section: its first offset, the size of an entry, how many there are, and the rule of entry i
@@ -20,26 +20,26 @@ pub record Section : Type 0 where
   pub good : ℕ → Bool
 
 -- a line of the table
-abbrev line : ℕ → ℕ → ℕ → (ℕ → Bool) → Section
-line base size count good = record { base = base; size = size; count = count; good = good }
+abbrev section : ℕ → ℕ → ℕ → (ℕ → Bool) → Section
+section base size count good = record { base = base; size = size; count = count; good = good }
 
 -- the table: offset, bytes of an entry, entries, the rule of entry i
 unfoldable pub sections : Config → List Section
 sections c =
     let fitted = fittedIn (c .inputs) in
     let p = c .program in
-    line 5 1 1 (λ i. periodGood (c .period))
-    ∷ line 6 7 16 (λ i. inputGood (getD (c .inputs) i noInput))
-    ∷ line 118 2 8 (λ i. sumGood fitted (getD (c .sums) i 0))
-    ∷ line 134 1 32 (λ i. coefficientGood (getD (c .coefficients) i (pos 0)))
-    ∷ line 166 2 16 (λ i. slotGood fitted (getD (c .slots) i noSlot))
-    ∷ line 198 2 32 (λ i. true)
-    ∷ line 262 4 128 (λ i. windowGood (getD (p .windows) i noWindow))
-    ∷ line 774 1 128 (λ i. weekGood (getD (p .weeks) i 0))
-    ∷ line 902 4 8 (λ i. seasonGood (getD (p .seasons) i noSeason))
-    ∷ line 934 4 32 (λ i. holidayGood (getD (p .holidays) i noHoliday))
-    ∷ line 1062 2 16 (λ i. ruleGood (getD (p .rules) i noRule))
-    ∷ line 1094 2 16 (λ i. registerGood (getD (c .registers) i noRegister))
+    section 5 1 1 (λ i. periodGood (c .period))
+    ∷ section 6 7 16 (λ i. inputGood (getD (c .inputs) i zeroInput))
+    ∷ section 118 2 8 (λ i. sumGood fitted (getD (c .sums) i 0))
+    ∷ section 134 1 32 (λ i. coefficientGood (getD (c .coefficients) i (pos 0)))
+    ∷ section 166 2 16 (λ i. slotGood fitted (getD (c .slots) i zeroSlot))
+    ∷ section 198 2 32 (λ i. true)
+    ∷ section 262 4 128 (λ i. windowGood (getD (p .windows) i zeroWindow))
+    ∷ section 774 1 128 (λ i. weekGood (getD (p .weeks) i 0))
+    ∷ section 902 4 8 (λ i. seasonGood (getD (p .seasons) i zeroSeason))
+    ∷ section 934 4 32 (λ i. holidayGood (getD (p .holidays) i zeroHoliday))
+    ∷ section 1062 2 16 (λ i. ruleGood (getD (p .rules) i zeroRule))
+    ∷ section 1094 2 16 (λ i. registerGood (getD (c .registers) i zeroRegister))
     ∷ []
 
 -- what is said of a section whose first bad entry is i: 4 VALUE with the offset of that entry, or nothing where i is the count

@@ -12,6 +12,10 @@ use Rattle.laws.specs.Masks.{bitAt}
 use Rattle.calendar.specs.Dates.{dayExists, existsInSomeYear}
 use Rattle.tariff.specs.Weekly.{unusedHoliday}
 use Rattle.tariff.specs.Seasons.{unusedSeason}
+pub use Rattle.tariff.specs.Daily.{zeroWindow}
+pub use Rattle.tariff.specs.Weekly.{zeroHoliday}
+pub use Rattle.tariff.specs.Seasons.{zeroSeason}
+pub use Rattle.tariff.specs.Rules.{zeroRule}
 use Rattle.tariff.specs.declared.Window.{Window}
 use Rattle.tariff.specs.declared.Season.{Season}
 use Rattle.tariff.specs.declared.Holiday.{Holiday}
@@ -20,33 +24,17 @@ use Rattle.settings.specs.declared.Input.{Input}
 use Rattle.settings.specs.declared.Slot.{Slot}
 use Rattle.settings.specs.declared.Register.{Register}
 
--- an input of zeros: entries of zeros stand in a blank configuration, and past the end of a list
-abbrev pub noInput : Input
-noInput = record { kind = 0; shortest = 0; longest = 0; numerator = 0; denominator = 0 }
+-- an input of zeros; entries of zeros stand in a blank configuration, and past the end of a list
+abbrev pub zeroInput : Input
+zeroInput = record { kind = 0; shortest = 0; longest = 0; numerator = 0; denominator = 0 }
 
 -- a slot of zeros
-abbrev pub noSlot : Slot
-noSlot = record { level = 0; index = 0 }
-
--- a window of zeros
-abbrev pub noWindow : Window
-noWindow = record { first = 0; end = 0 }
-
--- a season of zeros
-abbrev pub noSeason : Season
-noSeason = record { first = record { day = 0; month = 0 }; second = record { day = 0; month = 0 } }
-
--- a holiday of zeros
-abbrev pub noHoliday : Holiday
-noHoliday = record { day = 0; month = 0; year = 0 }
-
--- a tariff rule of zeros
-abbrev pub noRule : Rule
-noRule = record { season = 0; week = 0 }
+abbrev pub zeroSlot : Slot
+zeroSlot = record { level = 0; index = 0 }
 
 -- a bill register of zeros
-abbrev pub noRegister : Register
-noRegister = record { sum = 0; rule = 0 }
+abbrev pub zeroRegister : Register
+zeroRegister = record { sum = 0; rule = 0 }
 
 -- "period in minutes: 1, 2, 3, 4, 5, 6, 10, 12, 15, 20, 30 or 60"
 abbrev pub periods : List ℕ
@@ -74,7 +62,7 @@ inputGood x = (eqb (x .kind) 0 && sixZeros x) || (((eqb (x .kind) 1 || eqb (x .k
 
 -- input i is fitted: its kind is not 0; there are no inputs past 15
 unfoldable pub fittedIn : List Input → ℕ → Bool
-fittedIn inputs i = ltb i 16 && not (eqb (getD inputs i noInput .kind) 0)
+fittedIn inputs i = ltb i 16 && not (eqb (getD inputs i zeroInput .kind) 0)
 
 -- "sum: bit i names input i; fitted inputs only; 0 allowed"
 unfoldable pub sumGood : (ℕ → Bool) → ℕ → Bool

@@ -12,7 +12,7 @@ ghost use lib.ListN.{getD};
 ghost use lib.IntN.{pos};
 ghost use Rattle.laws.specs.Broken.{firstBroken};
 ghost use Rattle.laws.specs.Masks.{maskOf, bitAt};
-ghost use Rattle.settings.specs.Rules.{periodGood, inputGood, fittedIn, sumGood, coefficientGood, slotGood, windowGood, weekGood, seasonGood, holidayGood, ruleGood, registerGood, noInput, noSlot, noWindow, noSeason, noHoliday, noRule, noRegister};
+ghost use Rattle.settings.specs.Rules.{periodGood, inputGood, fittedIn, sumGood, coefficientGood, slotGood, windowGood, weekGood, seasonGood, holidayGood, ruleGood, registerGood, zeroInput, zeroSlot, zeroWindow, zeroSeason, zeroHoliday, zeroRule, zeroRegister};
 
 fn period(p: u8) -> bool
     ensures { λ r. ⌜ r ≡ periodGood p ⌝ }
@@ -67,7 +67,7 @@ fn coefficient(z: i8) -> bool
 fn slot(fitted: u32, x: Slot) -> bool
     ensures { λ r. ⌜ r ≡ slotGood (bitAt fitted) x ⌝ }
 {
-    let fits = tariff::bit_at(fitted, x.index);
+    let fits = tariff::bit_at(fitted, x.index as usize);
     ((x.level == 0) & fits)
         | ((x.level == 1) & (x.index < 8))
         | ((x.level == 2) & (x.index < 4))
@@ -127,7 +127,7 @@ pub(crate) fn periods(p: u8) -> usize
 }
 
 pub(crate) fn inputs(xs: [Input; 16]) -> usize
-    ensures { λ r. ⌜ r ≡ firstBroken 16 (λ i. inputGood (getD xs i noInput)) ⌝ }
+    ensures { λ r. ⌜ r ≡ firstBroken 16 (λ i. inputGood (getD xs i zeroInput)) ⌝ }
 {
     let mut i = 0;
     while i < 16 {
@@ -166,7 +166,7 @@ pub(crate) fn coefficients(xs: [i8; 32]) -> usize
 }
 
 pub(crate) fn slots(fitted: u32, xs: [Slot; 16]) -> usize
-    ensures { λ r. ⌜ r ≡ firstBroken 16 (λ i. slotGood (bitAt fitted) (getD xs i noSlot)) ⌝ }
+    ensures { λ r. ⌜ r ≡ firstBroken 16 (λ i. slotGood (bitAt fitted) (getD xs i zeroSlot)) ⌝ }
 {
     let mut i = 0;
     while i < 16 {
@@ -179,7 +179,7 @@ pub(crate) fn slots(fitted: u32, xs: [Slot; 16]) -> usize
 }
 
 pub(crate) fn windows(xs: [Window; 128]) -> usize
-    ensures { λ r. ⌜ r ≡ firstBroken 128 (λ i. windowGood (getD xs i noWindow)) ⌝ }
+    ensures { λ r. ⌜ r ≡ firstBroken 128 (λ i. windowGood (getD xs i zeroWindow)) ⌝ }
 {
     let mut i = 0;
     while i < 128 {
@@ -205,7 +205,7 @@ pub(crate) fn weeks(xs: [u8; 128]) -> usize
 }
 
 pub(crate) fn seasons(xs: [Season; 8]) -> usize
-    ensures { λ r. ⌜ r ≡ firstBroken 8 (λ i. seasonGood (getD xs i noSeason)) ⌝ }
+    ensures { λ r. ⌜ r ≡ firstBroken 8 (λ i. seasonGood (getD xs i zeroSeason)) ⌝ }
 {
     let mut i = 0;
     while i < 8 {
@@ -218,7 +218,7 @@ pub(crate) fn seasons(xs: [Season; 8]) -> usize
 }
 
 pub(crate) fn holidays(xs: [Holiday; 32]) -> usize
-    ensures { λ r. ⌜ r ≡ firstBroken 32 (λ i. holidayGood (getD xs i noHoliday)) ⌝ }
+    ensures { λ r. ⌜ r ≡ firstBroken 32 (λ i. holidayGood (getD xs i zeroHoliday)) ⌝ }
 {
     let mut i = 0;
     while i < 32 {
@@ -231,7 +231,7 @@ pub(crate) fn holidays(xs: [Holiday; 32]) -> usize
 }
 
 pub(crate) fn tariff_rules(xs: [Rule; 16]) -> usize
-    ensures { λ r. ⌜ r ≡ firstBroken 16 (λ i. ruleGood (getD xs i noRule)) ⌝ }
+    ensures { λ r. ⌜ r ≡ firstBroken 16 (λ i. ruleGood (getD xs i zeroRule)) ⌝ }
 {
     let mut i = 0;
     while i < 16 {
@@ -244,7 +244,7 @@ pub(crate) fn tariff_rules(xs: [Rule; 16]) -> usize
 }
 
 pub(crate) fn registers(xs: [Register; 16]) -> usize
-    ensures { λ r. ⌜ r ≡ firstBroken 16 (λ i. registerGood (getD xs i noRegister)) ⌝ }
+    ensures { λ r. ⌜ r ≡ firstBroken 16 (λ i. registerGood (getD xs i zeroRegister)) ⌝ }
 {
     let mut i = 0;
     while i < 16 {

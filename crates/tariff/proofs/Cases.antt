@@ -2,9 +2,9 @@
 use mathlib.Core.Path.{refl}
 use Rattle.laws.specs.Each.{Each}
 use Rattle.tariff.specs.Seasons.{inSeason}
-use Rattle.tariff.specs.Cases.{Claim, cases}
+use Rattle.tariff.specs.Cases.{TariffClaim, tariffCases}
 
 -- all of them hold: antt computes both sides of each
-pub cases-hold : Each Claim cases
+pub cases-hold : Each TariffClaim tariffCases
 unfolding inSeason
 cases-hold = (refl, (refl, (refl, (refl, (refl, (refl, (refl, tt)))))))

@@ -10,14 +10,14 @@ use Rattle.tariff.specs.declared.Date.{Date}
 use Rattle.tariff.specs.declared.Season.{Season}
 
 -- a case of the table: a minute of a window, a date of a season, and whether it is active
-pub data Case : Type 0 where
-  minute-of : Window → ℕ → Bool → Case
-  date-of : Season → Date → Bool → Case
+pub data TariffCase : Type 0 where
+  minute-of : Window → ℕ → Bool → TariffCase
+  date-of : Season → Date → Bool → TariffCase
 
 -- what a case claims
-abbrev pub Claim : Case → Type 0
-Claim (minute-of w minute active) = inWindow w minute ≡ active
-Claim (date-of s date active) = inSeason s date ≡ active
+abbrev pub TariffClaim : TariffCase → Type 0
+TariffClaim (minute-of w minute active) = inWindow w minute ≡ active
+TariffClaim (date-of s date active) = inSeason s date ≡ active
 
 -- the window of line 8
 abbrev daytime : Window
@@ -32,8 +32,8 @@ abbrev winter : Season
 winter = record { first = on 1 11; second = on 28 2 }
 
 -- lines 8 and 9
-abbrev pub cases : List Case
-cases =
+abbrev pub tariffCases : List TariffCase
+tariffCases =
     minute-of daytime 359 false
     ∷ minute-of daytime 360 true
     ∷ minute-of daytime 1319 true

@@ -12,9 +12,13 @@ use Rattle.tariff.specs.declared.Program.{Program}
 abbrev pub inWindow : Window → ℕ → Bool
 inWindow w minute = leb (w .first) minute && ltb minute (w .end)
 
+-- a window of zeros, which stands past the end of the list
+abbrev pub zeroWindow : Window
+zeroWindow = record { first = 0; end = 0 }
+
 -- window k of a daily rule as an entry of the program
 abbrev pub windowAt : Program → ℕ → ℕ → Window
-windowAt p rule k = getD (p .windows) (rule * 4 + k) (record { first = 0; end = 0 })
+windowAt p rule k = getD (p .windows) (rule * 4 + k) zeroWindow
 
 -- a daily rule is active in the minutes of its four windows; a number past 31, as 255, names no rule
 unfoldable pub dailyActive : Program → ℕ → ℕ → Bool

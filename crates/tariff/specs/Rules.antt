@@ -12,9 +12,13 @@ use Rattle.tariff.specs.Seasons.{dateOf, seasonActive}
 use Rattle.tariff.specs.declared.Rule.{Rule}
 use Rattle.tariff.specs.declared.Program.{Program}
 
+-- a tariff rule of zeros, which stands past the end of the list
+abbrev pub zeroRule : Rule
+zeroRule = record { season = 0; week = 0 }
+
 -- tariff rule i as an entry of the program
 abbrev pub ruleAt : Program → ℕ → Rule
-ruleAt p i = getD (p .rules) i (record { season = 0; week = 0 })
+ruleAt p i = getD (p .rules) i zeroRule
 
 -- a rule's season, 255 being any, and its weekly rule are active
 unfoldable pub applies : Program → Rule → Moment → Bool

@@ -29,9 +29,13 @@ inSeason s date =
     let lasts = notAfter date (s .second) in
     not (unusedSeason s) && (if notAfter (s .first) (s .second) then begun && lasts else begun || lasts)
 
+-- a season of zeros, which stands past the end of the list
+abbrev pub zeroSeason : Season
+zeroSeason = record { first = record { day = 0; month = 0 }; second = record { day = 0; month = 0 } }
+
 -- season k as an entry of the program
 abbrev pub seasonAt : Program → ℕ → Season
-seasonAt p k = getD (p .seasons) k (record { first = record { day = 0; month = 0 }; second = record { day = 0; month = 0 } })
+seasonAt p k = getD (p .seasons) k zeroSeason
 
 -- the season of a number is active; a number past 7 names none
 unfoldable pub seasonActive : Program → ℕ → Date → Bool

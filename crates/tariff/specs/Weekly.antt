@@ -25,9 +25,13 @@ abbrev pub holidayFits : Holiday → ℕ → ℕ → ℕ → Bool
 holidayFits h day month year =
     ((not (unusedHoliday h) && eqb (h .day) day) && eqb (h .month) month) && (eqb (h .year) 0 || eqb (h .year) year)
 
+-- a holiday of zeros, which stands past the end of the list
+abbrev pub zeroHoliday : Holiday
+zeroHoliday = record { day = 0; month = 0; year = 0 }
+
 -- holiday k as an entry of the program
 abbrev pub holidayAt : Program → ℕ → Holiday
-holidayAt p k = getD (p .holidays) k (record { day = 0; month = 0; year = 0 })
+holidayAt p k = getD (p .holidays) k zeroHoliday
 
 -- the first of the 32 holidays that fits a day
 unfoldable pub firstHoliday : Program → ℕ → ℕ → ℕ → Option ℕ

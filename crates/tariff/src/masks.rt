@@ -3,7 +3,7 @@ ghost use mathlib.Core.Path.{_≡_};
 ghost use Rattle.laws.specs.Masks.{bitAt, orBit};
 
 // Whether a bit of a mask is on; no mask has a bit past 31.
-pub fn bit_at(mask: u32, place: u8) -> bool
+pub fn bit_at(mask: u32, place: usize) -> bool
     ensures { λ r. ⌜ r ≡ bitAt mask place ⌝ }
 {
     if place >= 32 {

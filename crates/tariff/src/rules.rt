@@ -19,8 +19,8 @@ pub fn force_map(program: Program, m: Moment) -> u16
     let mut map: u32 = 0;
     for i in 0..16usize {
         let r = program.rules[i];
-        let season = (r.season == 255) | bit_at(seasons, r.season);
-        map = with_bit(map, i, season & bit_at(weekly, r.week));
+        let season = (r.season == 255) | bit_at(seasons, r.season as usize);
+        map = with_bit(map, i, season & bit_at(weekly, r.week as usize));
     }
     map as u16
 }

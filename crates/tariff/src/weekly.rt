@@ -91,7 +91,7 @@ pub fn weekly_map(program: Program, m: Moment) -> u16
     let mut map: u32 = 0;
     for week in 0..16usize {
         let rule = reference(weeks, week as u8, column);
-        map = with_bit(map, week, bit_at(daily, rule));
+        map = with_bit(map, week, bit_at(daily, rule as usize));
     }
     map as u16
 }

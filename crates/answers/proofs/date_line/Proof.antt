@@ -14,12 +14,4 @@ returns-2 c = rw (c .refused .ensures, ← c .before .before .before .moment-of 
 
 pub date-line-spec : {M : Type 1} → statement M
 date-line-spec =
-    tie.close
-    (tie.spec
-    (λ c κs. search needs)
-    (λ c. search needs)
-    (λ c κs. search needs)
-    (λ c. search needs)
-    (λ c κs. search needs)
-    returns
-    returns-2)
+    tie.close (tie.spec (λ c κs. search needs) (λ c. search needs) (λ c κs. search needs) (λ c. search needs) (λ c κs. search needs) returns returns-2)

@@ -14,11 +14,4 @@ returns-2 c = let a = c .before .before .before .args in rw (c .hex-line2 .ensur
 pub first-bytes-spec : {M : Type 1} → statement M
 first-bytes-spec =
     tie.close
-    (tie.spec
-    (λ c. search needs)
-    slice-aggregate-hex-line
-    (λ c κs. search needs)
-    (λ c. search needs)
-    (λ c. search needs)
-    (λ c κs. search needs)
-    returns-2)
+    (tie.spec (λ c. search needs) slice-aggregate-hex-line (λ c κs. search needs) (λ c. search needs) (λ c. search needs) (λ c κs. search needs) returns-2)

@@ -10,10 +10,4 @@ unfolding withBytes
 returns c = rw (c .with-byte .ensures, c .before .with-hex .ensures, c .before .before .blank .ensures) (simp split)
 
 pub hex-line-spec : {M : Type 1} → statement M
-hex-line-spec =
-    tie.close
-    (tie.spec
-    (λ c κs. search needs)
-    (λ c κs. search needs)
-    (λ c κs. search needs)
-    returns)
+hex-line-spec = tie.close (tie.spec (λ c κs. search needs) (λ c κs. search needs) (λ c κs. search needs) returns)

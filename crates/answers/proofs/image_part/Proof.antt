@@ -19,13 +19,5 @@ returns-3 c = rw (c .refused-part2 .ensures, c .before .enum-told2 .given .1)
 pub image-part-spec : {M : Type 1} → statement M
 image-part-spec =
     tie.close
-    (tie.spec
-    (λ c. search needs)
-    (λ c κs. search needs)
-    (λ c. search needs)
-    (λ c κs. search needs)
-    (λ c. search needs)
-    (λ c κs. search needs)
-    returns
-    returns-2
+    (tie.spec (λ c. search needs) (λ c κs. search needs) (λ c. search needs) (λ c κs. search needs) (λ c. search needs) (λ c κs. search needs) returns returns-2
     returns-3)

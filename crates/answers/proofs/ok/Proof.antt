@@ -10,10 +10,4 @@ unfolding letters withBytes
 returns c = rw (c .with-bytes .ensures, c .before .before .blank .ensures)
 
 pub ok-spec : {M : Type 1} → statement M
-ok-spec =
-    tie.close
-    (tie.spec
-    (λ c κs. search needs)
-    (λ c. search needs)
-    (λ c κs. search needs)
-    returns)
+ok-spec = tie.close (tie.spec (λ c κs. search needs) (λ c. search needs) (λ c κs. search needs) returns)

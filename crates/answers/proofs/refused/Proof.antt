@@ -11,12 +11,4 @@ unfolding letters withBytes
 returns c = rw (c .with-byte .ensures, c .before .with-number .ensures, c .before .before .with-bytes .ensures, c .before .before .before .before .blank .ensures) (simp split)
 
 pub refused-spec : {M : Type 1} → statement M
-refused-spec =
-    tie.close
-    (tie.spec
-    (λ c κs. search needs)
-    (λ c. search needs)
-    (λ c κs. search needs)
-    (λ c κs. search needs)
-    (λ c κs. search needs)
-    returns)
+refused-spec = tie.close (tie.spec (λ c κs. search needs) (λ c. search needs) (λ c κs. search needs) (λ c κs. search needs) (λ c κs. search needs) returns)

@@ -15,10 +15,4 @@ unfolding imagePart withBytes
 returns-2 c = rw (c .blank .ensures, ne-eqb _ 0 (c .before .if1 .left))
 
 pub refused-part-spec : {M : Type 1} → statement M
-refused-part-spec =
-    tie.close
-    (tie.spec
-    (λ c κs. search needs)
-    returns
-    (λ c κs. search needs)
-    returns-2)
+refused-part-spec = tie.close (tie.spec (λ c κs. search needs) returns (λ c κs. search needs) returns-2)

@@ -10,12 +10,4 @@ returns-2 : tie.Need-returns-2
 returns-2 c = rw (c .refused .ensures, c .before .enum-told2 .given .1)
 
 pub set-line-spec : {M : Type 1} → statement M
-set-line-spec =
-    tie.close
-    (tie.spec
-    (λ c. search needs)
-    (λ c κs. search needs)
-    (λ c. search needs)
-    (λ c κs. search needs)
-    returns
-    returns-2)
+set-line-spec = tie.close (tie.spec (λ c. search needs) (λ c κs. search needs) (λ c. search needs) (λ c κs. search needs) returns returns-2)

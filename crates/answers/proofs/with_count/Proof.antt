@@ -8,9 +8,4 @@ returns : tie.Need-returns
 returns c = rw (c .with-number .ensures, c .before .with-bytes .ensures) (simp split)
 
 pub with-count-spec : {M : Type 1} → statement M
-with-count-spec =
-    tie.close
-    (tie.spec
-    (λ c κs. search needs)
-    (λ c κs. search needs)
-    returns)
+with-count-spec = tie.close (tie.spec (λ c κs. search needs) (λ c κs. search needs) returns)

@@ -55,20 +55,5 @@ returns-2 c =
 pub moment-of-spec : {M : Type 1} → statement M
 moment-of-spec =
     tie.close
-    (tie.spec
-    Inv-loop
-    μ-loop
-    year-day-requires
-    add-year
-    cast-year
-    loop-holds
-    (λ c κs. search needs)
-    (λ c. search needs)
-    (λ c. search needs)
-    (λ c. search needs)
-    (λ c κs. search needs)
-    returns
-    (λ c. search needs)
-    (λ c. search needs)
-    loop-again
-    returns-2)
+    (tie.spec Inv-loop μ-loop year-day-requires add-year cast-year loop-holds (λ c κs. search needs) (λ c. search needs) (λ c. search needs) (λ c. search needs)
+    (λ c κs. search needs) returns (λ c. search needs) (λ c. search needs) loop-again returns-2)

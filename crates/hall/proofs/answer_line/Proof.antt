@@ -9,11 +9,4 @@ slice-aggregate-answer : tie.Need-slice-aggregate-answer
 slice-aggregate-answer c = sym (length-take-le _ _ (c .before .before .if1 .taken))
 
 pub answer-line-spec : {M : Type 1} → statement M
-answer-line-spec =
-    tie.close
-    (tie.spec
-    slice-aggregate-answer
-    (λ c κs. search needs)
-    (λ c. search needs)
-    (λ c. search needs)
-    (λ c. search needs))
+answer-line-spec = tie.close (tie.spec slice-aggregate-answer (λ c κs. search needs) (λ c. search needs) (λ c. search needs) (λ c. search needs))

@@ -17,13 +17,4 @@ returns-3 c = ap answerNumber (sym (ap ageSaid (c .enum-told2 .given .1)) ∙ c 
 
 pub recorder-age-class-spec : {M : Type 1} → statement M
 recorder-age-class-spec =
-    tie.close
-    (tie.spec
-    (λ c κs. search needs)
-    (λ c. search needs)
-    (λ c κs. search needs)
-    (λ c. search needs)
-    (λ c. search needs)
-    returns
-    returns-2
-    returns-3)
+    tie.close (tie.spec (λ c κs. search needs) (λ c. search needs) (λ c κs. search needs) (λ c. search needs) (λ c. search needs) returns returns-2 returns-3)

@@ -29,19 +29,5 @@ returns-5 c = c .refusal4 .ensures ∙ ap imageNumber (sym (ap imageSaid (c .bef
 pub recorder-image-check-spec : {M : Type 1} → statement M
 recorder-image-check-spec =
     tie.close
-    (tie.spec
-    (λ c κs. search needs)
-    (λ c. search needs)
-    (λ c. search needs)
-    (λ c κs. search needs)
-    (λ c. search needs)
-    (λ c κs. search needs)
-    (λ c. search needs)
-    (λ c κs. search needs)
-    (λ c. search needs)
-    refusal-requires-4
-    returns
-    returns-2
-    returns-3
-    returns-4
-    returns-5)
+    (tie.spec (λ c κs. search needs) (λ c. search needs) (λ c. search needs) (λ c κs. search needs) (λ c. search needs) (λ c κs. search needs)
+    (λ c. search needs) (λ c κs. search needs) (λ c. search needs) refusal-requires-4 returns returns-2 returns-3 returns-4 returns-5)

@@ -37,17 +37,5 @@ returns-5 c = sym (passed (c .before .before .before .before) ∙ sym (c .before
 pub check-image-spec : {M : Type 1} → statement M
 check-image-spec =
     tie.close
-    (tie.spec
-    returns
-    (λ c. search needs)
-    (λ c. search needs)
-    (λ c. search needs)
-    returns-2
-    (λ c κs. search needs)
-    returns-3
-    (λ c κs. search needs)
-    (λ c κs. search needs)
-    (λ c. search needs)
-    (λ c. search needs)
-    returns-4
-    returns-5)
+    (tie.spec returns (λ c. search needs) (λ c. search needs) (λ c. search needs) returns-2 (λ c κs. search needs) returns-3 (λ c κs. search needs)
+    (λ c κs. search needs) (λ c. search needs) (λ c. search needs) returns-4 returns-5)

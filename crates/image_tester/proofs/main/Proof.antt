@@ -16,13 +16,5 @@ slice-aggregate-write-all c = sym (length-take-le _ _ (array-share-prefix-bytes 
 pub main-spec : {M : Type 1} → statement M
 main-spec =
     tie.close
-    (tie.spec
-    (λ c. search needs)
-    (λ c κs. search needs)
-    (λ c. search needs)
-    (λ c. search needs)
-    (λ c κs. search needs)
-    array-share-prefix-bytes
-    slice-aggregate-write-all
-    (λ c κs. search needs)
-    (λ c. search needs))
+    (tie.spec (λ c. search needs) (λ c κs. search needs) (λ c. search needs) (λ c. search needs) (λ c κs. search needs) array-share-prefix-bytes
+    slice-aggregate-write-all (λ c κs. search needs) (λ c. search needs))

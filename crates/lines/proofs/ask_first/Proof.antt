@@ -23,12 +23,4 @@ returns-3 c = rw (c .enum-told .given .1)
 pub ask-first-spec : {M : Type 1} → statement M
 ask-first-spec =
     tie.close
-    (tie.spec
-    (λ c. search needs)
-    (λ c κs. search needs)
-    (λ c κs. search needs)
-    (λ c κs. search needs)
-    returns
-    (λ c. search needs)
-    returns-2
-    returns-3)
+    (tie.spec (λ c. search needs) (λ c κs. search needs) (λ c κs. search needs) (λ c κs. search needs) returns (λ c. search needs) returns-2 returns-3)

@@ -7,9 +7,4 @@ returns : tie.Need-returns
 returns c = rw (c .text-of .ensures, c .before .without-return .ensures)
 
 pub line-of-spec : {M : Type 1} → statement M
-line-of-spec =
-    tie.close
-    (tie.spec
-    (λ c κs. search needs)
-    (λ c κs. search needs)
-    returns)
+line-of-spec = tie.close (tie.spec (λ c κs. search needs) (λ c κs. search needs) returns)

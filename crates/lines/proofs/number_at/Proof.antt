@@ -7,9 +7,4 @@ returns : tie.Need-returns
 returns c = (rw (c .read-number .ensures .0, c .before .word .ensures), c .read-number .ensures .1)
 
 pub number-at-spec : {M : Type 1} → statement M
-number-at-spec =
-    tie.close
-    (tie.spec
-    (λ c κs. search needs)
-    (λ c κs. search needs)
-    returns)
+number-at-spec = tie.close (tie.spec (λ c κs. search needs) (λ c κs. search needs) returns)

@@ -11,10 +11,4 @@ returns-2 : tie.Need-returns-2
 returns-2 c = rw (← c .before .count .ensures, le-ltb _ _ (c .if1 .left))
 
 pub number-or-spec : {M : Type 1} → statement M
-number-or-spec =
-    tie.close
-    (tie.spec
-    (λ c κs. search needs)
-    (λ c κs. search needs)
-    returns
-    returns-2)
+number-or-spec = tie.close (tie.spec (λ c κs. search needs) (λ c κs. search needs) returns returns-2)

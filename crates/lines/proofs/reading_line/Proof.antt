@@ -10,11 +10,4 @@ returns c = rw (c .reading-of .ensures, c .before .number-at3 .ensures .0, c .be
 
 pub reading-line-spec : {M : Type 1} → statement M
 reading-line-spec =
-    tie.close
-    (tie.spec
-    (λ c κs. search needs)
-    (λ c κs. search needs)
-    (λ c κs. search needs)
-    (λ c κs. search needs)
-    (λ c κs. search needs)
-    returns)
+    tie.close (tie.spec (λ c κs. search needs) (λ c κs. search needs) (λ c κs. search needs) (λ c κs. search needs) (λ c κs. search needs) returns)

@@ -23,16 +23,5 @@ returns-5 c = rw (c .before .before .before .before .before .before .before .bef
 pub reading-of-spec : {M : Type 1} → statement M
 reading-of-spec =
     tie.close
-    (tie.spec
-    (λ c κs. search needs)
-    returns
-    (λ c κs. search needs)
-    returns-2
-    (λ c κs. search needs)
-    returns-3
-    (λ c κs. search needs)
-    returns-4
-    (λ c. search needs)
-    (λ c. search needs)
-    (λ c. search needs)
-    returns-5)
+    (tie.spec (λ c κs. search needs) returns (λ c κs. search needs) returns-2 (λ c κs. search needs) returns-3 (λ c κs. search needs) returns-4
+    (λ c. search needs) (λ c. search needs) (λ c. search needs) returns-5)

@@ -9,11 +9,4 @@ unfolding askedOf
 returns c = rw (c .register-of .ensures, c .before .number-or .ensures, c .before .before .number-at2 .ensures .0, c .before .before .before .number-at .ensures .0)
 
 pub register-line-spec : {M : Type 1} → statement M
-register-line-spec =
-    tie.close
-    (tie.spec
-    (λ c κs. search needs)
-    (λ c κs. search needs)
-    (λ c κs. search needs)
-    (λ c κs. search needs)
-    returns)
+register-line-spec = tie.close (tie.spec (λ c κs. search needs) (λ c κs. search needs) (λ c κs. search needs) (λ c κs. search needs) returns)

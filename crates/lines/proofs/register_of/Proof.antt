@@ -16,13 +16,4 @@ returns-4 : tie.Need-returns-4
 returns-4 c = rw (c .before .before .before .before .if1 .left, c .before .before .if2 .left, c .if3 .left)
 
 pub register-of-spec : {M : Type 1} → statement M
-register-of-spec =
-    tie.close
-    (tie.spec
-    (λ c κs. search needs)
-    returns
-    (λ c κs. search needs)
-    returns-2
-    (λ c κs. search needs)
-    returns-3
-    returns-4)
+register-of-spec = tie.close (tie.spec (λ c κs. search needs) returns (λ c κs. search needs) returns-2 (λ c κs. search needs) returns-3 returns-4)

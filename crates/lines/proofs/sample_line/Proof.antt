@@ -9,10 +9,4 @@ unfolding askedOf
 returns c = rw (c .sample-of .ensures, c .before .number-or .ensures, c .before .before .number-at .ensures .0)
 
 pub sample-line-spec : {M : Type 1} → statement M
-sample-line-spec =
-    tie.close
-    (tie.spec
-    (λ c κs. search needs)
-    (λ c κs. search needs)
-    (λ c κs. search needs)
-    returns)
+sample-line-spec = tie.close (tie.spec (λ c κs. search needs) (λ c κs. search needs) (λ c κs. search needs) returns)

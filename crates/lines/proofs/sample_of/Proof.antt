@@ -13,12 +13,4 @@ returns-3 : tie.Need-returns-3
 returns-3 c = rw (c .before .before .before .if1 .left, c .before .if2 .left)
 
 pub sample-of-spec : {M : Type 1} → statement M
-sample-of-spec =
-    tie.close
-    (tie.spec
-    (λ c κs. search needs)
-    returns
-    (λ c κs. search needs)
-    returns-2
-    (λ c. search needs)
-    returns-3)
+sample-of-spec = tie.close (tie.spec (λ c κs. search needs) returns (λ c κs. search needs) returns-2 (λ c. search needs) returns-3)

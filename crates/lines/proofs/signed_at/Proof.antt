@@ -7,9 +7,4 @@ returns : tie.Need-returns
 returns c = rw (c .read-signed .ensures, c .before .word .ensures)
 
 pub signed-at-spec : {M : Type 1} → statement M
-signed-at-spec =
-    tie.close
-    (tie.spec
-    (λ c κs. search needs)
-    (λ c κs. search needs)
-    returns)
+signed-at-spec = tie.close (tie.spec (λ c κs. search needs) (λ c κs. search needs) returns)

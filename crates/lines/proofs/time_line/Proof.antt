@@ -7,9 +7,4 @@ returns : tie.Need-returns
 returns c = rw (c .time-of .ensures, c .before .number-at .ensures .0)
 
 pub time-line-spec : {M : Type 1} → statement M
-time-line-spec =
-    tie.close
-    (tie.spec
-    (λ c κs. search needs)
-    (λ c κs. search needs)
-    returns)
+time-line-spec = tie.close (tie.spec (λ c κs. search needs) (λ c κs. search needs) returns)

@@ -10,10 +10,4 @@ returns-2 : tie.Need-returns-2
 returns-2 c = rw (c .with-time .ensures, c .before .if1 .left)
 
 pub time-of-spec : {M : Type 1} → statement M
-time-of-spec =
-    tie.close
-    (tie.spec
-    (λ c κs. search needs)
-    returns
-    (λ c κs. search needs)
-    returns-2)
+time-of-spec = tie.close (tie.spec (λ c κs. search needs) returns (λ c κs. search needs) returns-2)

@@ -9,9 +9,4 @@ unfolding blankRecorder
 returns c = rw (c .fresh-state .ensures, c .before .blank-config .ensures)
 
 pub blank-recorder-spec : {M : Type 1} → statement M
-blank-recorder-spec =
-    tie.close
-    (tie.spec
-    (λ c κs. search needs)
-    (λ c κs. search needs)
-    returns)
+blank-recorder-spec = tie.close (tie.spec (λ c κs. search needs) (λ c κs. search needs) returns)

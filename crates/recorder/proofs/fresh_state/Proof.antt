@@ -9,7 +9,4 @@ unfolding freshState
 returns c = refl
 
 pub fresh-state-spec : {M : Type 1} → statement M
-fresh-state-spec =
-    tie.close
-    (tie.spec
-    returns)
+fresh-state-spec = tie.close (tie.spec returns)

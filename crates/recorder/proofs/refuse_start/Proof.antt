@@ -7,8 +7,4 @@ returns : tie.Need-returns
 returns c = rw (c .blank-recorder .ensures)
 
 pub refuse-start-spec : {M : Type 1} → statement M
-refuse-start-spec =
-    tie.close
-    (tie.spec
-    (λ c κs. search needs)
-    returns)
+refuse-start-spec = tie.close (tie.spec (λ c κs. search needs) returns)

@@ -14,12 +14,4 @@ returns-2 c = rw (sym (c .before .before .before .moment-of .ensures) ∙ ap dat
 
 pub start-at-spec : {M : Type 1} → statement M
 start-at-spec =
-    tie.close
-    (tie.spec
-    (λ c κs. search needs)
-    (λ c. search needs)
-    (λ c κs. search needs)
-    (λ c. search needs)
-    (λ c κs. search needs)
-    returns
-    returns-2)
+    tie.close (tie.spec (λ c κs. search needs) (λ c. search needs) (λ c κs. search needs) (λ c. search needs) (λ c κs. search needs) returns returns-2)

@@ -50,17 +50,5 @@ returns-5 c =
 pub is-fitted-spec : {M : Type 1} → statement M
 is-fitted-spec =
     tie.close
-    (tie.spec
-    (λ c. search needs)
-    array-read-result
-    (λ c. search needs)
-    array-copy-out-slot
-    (λ c. search needs)
-    array-copy-out-bill
-    (λ c. search needs)
-    array-copy-out-input
-    returns
-    returns-2
-    returns-3
-    returns-4
-    returns-5)
+    (tie.spec (λ c. search needs) array-read-result (λ c. search needs) array-copy-out-slot (λ c. search needs) array-copy-out-bill (λ c. search needs)
+    array-copy-out-input returns returns-2 returns-3 returns-4 returns-5)

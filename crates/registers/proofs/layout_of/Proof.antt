@@ -56,16 +56,4 @@ returns-10 c =
     (rest .0 .0 .0 .0 .0 .0 .1, (rest .0 .0 .0 .0 .0 .1, (rest .0 .0 .0 .0 .1, (rest .0 .0 .0 .1, (λ e. omega arith, (λ e. omega arith, (rest .0 .0 .1, (rest .0 .1, (rest .1, tt))))))))))
 
 pub layout-of-spec : {M : Type 1} → statement M
-layout-of-spec =
-    tie.close
-    (tie.spec
-    returns
-    returns-2
-    returns-3
-    returns-4
-    returns-5
-    returns-6
-    returns-7
-    returns-8
-    returns-9
-    returns-10)
+layout-of-spec = tie.close (tie.spec returns returns-2 returns-3 returns-4 returns-5 returns-6 returns-7 returns-8 returns-9 returns-10)

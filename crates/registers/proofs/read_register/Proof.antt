@@ -75,16 +75,5 @@ returns-5 c =
 pub read-register-spec : {M : Type 1} → statement M
 read-register-spec =
     tie.close
-    (tie.spec
-    (λ c κs. search needs)
-    (λ c. search needs)
-    (λ c. search needs)
-    returns
-    is-fitted-requires
-    returns-2
-    returns-3
-    contents-requires
-    give-requires
-    returns-4
-    (λ c. search needs)
-    returns-5)
+    (tie.spec (λ c κs. search needs) (λ c. search needs) (λ c. search needs) returns is-fitted-requires returns-2 returns-3 contents-requires give-requires
+    returns-4 (λ c. search needs) returns-5)

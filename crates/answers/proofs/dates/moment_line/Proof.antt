@@ -13,11 +13,4 @@ returns c = rw (c .with-byte2 .ensures, c .before .with-time .ensures, c .before
 
 pub moment-line-spec : {M : Type 1} → statement M
 moment-line-spec =
-    tie.close
-    (tie.spec
-    (λ c κs. search needs)
-    (λ c κs. search needs)
-    (λ c κs. search needs)
-    (λ c κs. search needs)
-    (λ c κs. search needs)
-    returns)
+    tie.close (tie.spec (λ c κs. search needs) (λ c κs. search needs) (λ c κs. search needs) (λ c κs. search needs) (λ c κs. search needs) returns)

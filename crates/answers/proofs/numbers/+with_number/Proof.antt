@@ -1,14 +1,10 @@
 -- `answers::numbers::with_number` meets its contract and ends: by the number, which falls. Every number of 64 bits has at most 20 digits.
-use mathlib.Core.Path.{_≡_, refl, sym, _∙_}
-use Prim.Native.Nat.{ℕ, suc, _+_, _/_, _<_, _^_}
+use Prim.Native.Nat.{ℕ, _<_}
 use native.Mathlib.Omega.{arith}
-use native.Mathlib.Nat.{lt-trans}
-use lib.Dec.{lit<}
 use borrow.Author.Needs.{needs}
-use borrow.Author.Tests.{lt-ltb, le-ltb}
 use borrow.Fn.Kinds.{In}
 use borrow.Fn.PlainCycle.{Measures, is, falls, and}
-use Rattle.answers.specs.Texts.{withByte, withBytes}
+use Rattle.answers.specs.Texts.{withBytes}
 use Rattle.answers.proofs.Laws.{split, decimal-short, decimal-long}
 use Rattle.answers.proofs.numbers.with_number.Reads as with-number
 use Rattle.answers.proofs.numbers.with_number.Kinds as with-number-kinds

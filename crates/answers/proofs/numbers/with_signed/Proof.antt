@@ -45,12 +45,4 @@ returns-2 c = rw (c .with-number2 .ensures, nat (c .before), signed-natural _ (n
 pub with-signed-spec : {M : Type 1} → statement M
 with-signed-spec =
     tie.close
-    (tie.spec
-    (λ c κs. search needs)
-    cast-with-number
-    add-with-number
-    (λ c κs. search needs)
-    returns
-    cast-with-number-2
-    (λ c κs. search needs)
-    returns-2)
+    (tie.spec (λ c κs. search needs) cast-with-number add-with-number (λ c κs. search needs) returns cast-with-number-2 (λ c κs. search needs) returns-2)

@@ -9,11 +9,4 @@ unfolding withBytes
 returns c = rw (c .with-byte2 .ensures, c .before .digit2 .ensures, c .before .before .with-byte .ensures, c .before .before .before .digit .ensures)
 
 pub with-two-spec : {M : Type 1} → statement M
-with-two-spec =
-    tie.close
-    (tie.spec
-    (λ c κs. search needs)
-    (λ c κs. search needs)
-    (λ c κs. search needs)
-    (λ c κs. search needs)
-    returns)
+with-two-spec = tie.close (tie.spec (λ c κs. search needs) (λ c κs. search needs) (λ c κs. search needs) (λ c κs. search needs) returns)

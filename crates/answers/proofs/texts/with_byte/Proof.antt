@@ -14,10 +14,4 @@ unfolding withByte
 returns-2 c = rw (le-ltb _ 256 (c .if1 .left))
 
 pub with-byte-spec : {M : Type 1} → statement M
-with-byte-spec =
-    tie.close
-    (tie.spec
-    (λ c. search needs)
-    (λ c. search needs)
-    returns
-    returns-2)
+with-byte-spec = tie.close (tie.spec (λ c. search needs) (λ c. search needs) returns returns-2)

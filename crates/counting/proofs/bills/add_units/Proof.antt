@@ -6,17 +6,17 @@ use native.Mathlib.Omega.{arith}
 use borrow.Author.Needs.{needs}
 use denote.Ref.{now}
 use lib.ListN.{getD}
+use Rattle.laws.specs.If.{if_then_else_}
 use Rattle.laws.specs.Masks.{bitAt}
-use Rattle.laws.proofs.Tables.{fillTo, fill-none, fill-more, fill-done}
-use Rattle.counting.specs.Bills.{unitAt, partOf}
+use Rattle.laws.proofs.Tables.{fillTo, fill-none, fill-more, fill-done, fill-rest}
+use Rattle.counting.specs.Bills.{unitAt}
 use Rattle.counting.specs.ByMask.{addedUnits}
-use Rattle.counting.proofs.Sums.{fill-rest}
 use Rattle.counting.proofs.bills.add_units.Statement.{statement}
 use Rattle.counting.proofs.bills.add_units.Tie as tie
 
 abbrev Inv-loop : tie.InvT-loop
 Inv-loop totals₀ i units sums k₀ totals k =
-    (k ≤ 8) × (totals ≡ fillTo (λ k. unitAt totals₀ k + partOf (bitAt (getD sums k 0) i) units) k totals₀)
+    (k ≤ 8) × (totals ≡ fillTo (λ k. unitAt totals₀ k + (if bitAt (getD sums k 0) i then units else 0)) k totals₀)
 
 abbrev μ-loop : tie.MeasureT-loop
 μ-loop totals₀ i units sums k₀ totals k = 8 - k
@@ -36,7 +36,7 @@ add-totals c = omega (arith, kept c, c .before .before .before .before .before .
 loop-again : tie.Need-loop-again Inv-loop μ-loop
 loop-again c = (
   omega arith,
-  fill-more _ _ _ _ _ (c .before .before .before .before .loop .inv .1) (rw (kept c, c .part .ensures .0, c .before .is-on .ensures)),
+  fill-more _ _ _ _ _ (c .before .before .before .before .loop .inv .1) (rw (kept c, c .part .ensures .0, c .before .bit-at .ensures)),
 )
 
 returns : tie.Need-returns Inv-loop μ-loop
@@ -46,20 +46,5 @@ returns c = fill-done _ 8 _ _ _ (c .before .loop .inv .1) (c .before .loop .inv 
 pub add-units-spec : {M : Type 1} → statement M
 add-units-spec =
     tie.close
-    (tie.spec
-    Inv-loop
-    μ-loop
-    loop-holds
-    (λ c. search needs)
-    (λ c. search needs)
-    (λ c. search needs)
-    (λ c. search needs)
-    (λ c κs. search needs)
-    (λ c κs. search needs)
-    add-totals
-    (λ c. search needs)
-    (λ c. search needs)
-    (λ c. search needs)
-    (λ c. search needs)
-    loop-again
-    returns)
+    (tie.spec Inv-loop μ-loop loop-holds (λ c. search needs) (λ c. search needs) (λ c. search needs) (λ c. search needs) (λ c. search needs)
+    (λ c κs. search needs) (λ c κs. search needs) add-totals (λ c. search needs) (λ c. search needs) (λ c. search needs) (λ c. search needs) loop-again returns)

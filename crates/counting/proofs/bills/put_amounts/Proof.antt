@@ -5,12 +5,13 @@ use native.Mathlib.Omega.{arith}
 use borrow.Author.Needs.{needs}
 use Rattle.laws.proofs.Arrays.{length-mapped}
 use Rattle.laws.proofs.Tables.{fillTo, fill-none, fill-more, fill-done}
-use Rattle.counting.specs.ByMask.{withAmountAt, withAmounts}
+use Rattle.counting.specs.Bills.{billAt, unitAt, withAmount}
+use Rattle.counting.specs.ByMask.{withAmounts}
 use Rattle.counting.proofs.bills.put_amounts.Statement.{statement}
 use Rattle.counting.proofs.bills.put_amounts.Tie as tie
 
 abbrev Inv-loop : tie.InvT-loop
-Inv-loop bills₀ amounts next₀ j₀ bills next j = (j ≤ 16) × (next ≡ fillTo (withAmountAt bills₀ amounts) j next₀) × (bills ≡ bills₀)
+Inv-loop bills₀ amounts next₀ j₀ bills next j = (j ≤ 16) × (next ≡ fillTo (λ k. withAmount (billAt bills₀ k) (unitAt amounts k)) j next₀) × (bills ≡ bills₀)
 
 abbrev μ-loop : tie.MeasureT-loop
 μ-loop bills₀ amounts next₀ j₀ bills next j = 16 - j
@@ -19,7 +20,6 @@ loop-holds : tie.Need-loop-holds Inv-loop μ-loop
 loop-holds c = (search needs, fill-none _ _, refl)
 
 loop-again : tie.Need-loop-again Inv-loop μ-loop
-unfolding withAmountAt
 loop-again c =
     let i = c .before .before .loop .inv in
     (omega arith, fill-more _ _ _ _ _ (i .1) (rw (i .2)), i .2)
@@ -31,17 +31,5 @@ returns c = fill-done _ 16 _ _ _ (c .before .loop .inv .1) (c .before .loop .inv
 pub put-amounts-spec : {M : Type 1} → statement M
 put-amounts-spec =
     tie.close
-    (tie.spec
-    Inv-loop
-    μ-loop
-    loop-holds
-    (λ c. search needs)
-    (λ c. search needs)
-    (λ c. search needs)
-    (λ c. search needs)
-    (λ c. search needs)
-    (λ c. search needs)
-    (λ c. search needs)
-    (λ c. search needs)
-    loop-again
-    returns)
+    (tie.spec Inv-loop μ-loop loop-holds (λ c. search needs) (λ c. search needs) (λ c. search needs) (λ c. search needs) (λ c. search needs) (λ c. search needs)
+    (λ c. search needs) (λ c. search needs) loop-again returns)

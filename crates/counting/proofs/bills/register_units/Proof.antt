@@ -14,11 +14,4 @@ unfolding registerUnits
 returns-2 c = rw (lt-ltb _ _ (c .before .if1 .left))
 
 pub register-units-spec : {M : Type 1} → statement M
-register-units-spec =
-    tie.close
-    (tie.spec
-    (λ c. search needs)
-    returns
-    (λ c. search needs)
-    (λ c. search needs)
-    returns-2)
+register-units-spec = tie.close (tie.spec (λ c. search needs) returns (λ c. search needs) (λ c. search needs) returns-2)

@@ -5,8 +5,8 @@ use native.Mathlib.Omega.{arith}
 use borrow.Author.Needs.{needs}
 use denote.Ref.{now}
 use lib.Count.{trailingZeros, trailing-le}
-use Rattle.counting.proofs.Sparse.{Looked, look-start, look-turn, look-found, look-done, lowest-below, drop-less}
-use Rattle.counting.proofs.Full.{filledAt, full-by-mask}
+use Rattle.laws.proofs.Sparse.{Looked, look-start, look-turn, look-found, look-done, lowest-below, drop-less}
+use Rattle.counting.proofs.Full.{filledAt, full-of-fed}
 use Rattle.counting.proofs.bills.some_full.Statement.{statement}
 use Rattle.counting.proofs.bills.some_full.Tie as tie
 
@@ -26,7 +26,7 @@ filled c = sym (c .would-fill .ensures ∙ rw (c .before .register-units .ensure
 returns : tie.Need-returns Inv-loop μ-loop
 returns c =
     let h = c .before .before .before .before .before .before .loop .inv in
-    sym (look-found _ _ (c .before .before .before .before .before .loop-test .taken) (h .0) (h .2) (filled (c .before) ∙ c .if1 .taken)) ∙ full-by-mask _ _ _ _
+    sym (look-found _ _ (c .before .before .before .before .before .loop-test .taken) (h .0) (h .2) (filled (c .before) ∙ c .if1 .taken)) ∙ full-of-fed _ _ _ _
 
 loop-less : tie.Need-loop-less Inv-loop μ-loop
 loop-less c = drop-less _ (c .before .before .before .before .before .loop-test .taken)
@@ -38,24 +38,10 @@ loop-again c =
     (omega (arith, drop-less _ p), trailing-le 16 _, look-turn _ _ p (h .0) (h .2) (filled (c .before) ∙ c .if1 .left))
 
 returns-2 : tie.Need-returns-2 Inv-loop μ-loop
-returns-2 c = sym (look-done _ _ (omega arith) (c .before .loop .inv .2)) ∙ full-by-mask _ _ _ _
+returns-2 c = sym (look-done _ _ (omega arith) (c .before .loop .inv .2)) ∙ full-of-fed _ _ _ _
 
 pub some-full-spec : {M : Type 1} → statement M
 some-full-spec =
     tie.close
-    (tie.spec
-    Inv-loop
-    μ-loop
-    loop-holds
-    (λ c. search needs)
-    (λ c. search needs)
-    (λ c. search (needs, lowest-below))
-    (λ c. search needs)
-    (λ c. search (needs, lowest-below))
-    (λ c κs. search needs)
-    (λ c κs. search needs)
-    returns
-    (λ c. search needs)
-    loop-less
-    loop-again
-    returns-2)
+    (tie.spec Inv-loop μ-loop loop-holds (λ c. search needs) (λ c. search needs) (λ c. search (needs, lowest-below)) (λ c. search needs)
+    (λ c. search (needs, lowest-below)) (λ c κs. search needs) (λ c κs. search needs) returns (λ c. search needs) loop-less loop-again returns-2)

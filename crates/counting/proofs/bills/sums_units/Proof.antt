@@ -5,7 +5,7 @@ use native.Mathlib.Omega.{arith}
 use borrow.Author.Needs.{needs}
 use lib.Count.{trailingZeros, trailing-le}
 use Rattle.counting.specs.Bills.{unitAt, sumsOf}
-use Rattle.counting.proofs.Sparse.{Half, lowest-below, drop-less}
+use Rattle.laws.proofs.Sparse.{Half, lowest-below, drop-less}
 use Rattle.counting.proofs.Sums.{unitsPast, sums-start, past-start, past-turn, sums-turn, sums-done, sums-long, sums-below}
 use Rattle.counting.proofs.bills.sums_units.Statement.{statement}
 use Rattle.counting.proofs.bills.sums_units.Tie as tie
@@ -39,15 +39,5 @@ returns c = let h = c .before .loop .inv in let a = c .before .before .args in s
 pub sums-units-spec : {M : Type 1} → statement M
 sums-units-spec =
     tie.close
-    (tie.spec
-    Inv-loop
-    μ-loop
-    loop-holds
-    (λ c. search needs)
-    (λ c. search needs)
-    (λ c. search (needs, lowest-below))
-    add-units-requires
-    (λ c. search needs)
-    loop-less
-    loop-again
-    returns)
+    (tie.spec Inv-loop μ-loop loop-holds (λ c. search needs) (λ c. search needs) (λ c. search (needs, lowest-below)) add-units-requires (λ c. search needs)
+    loop-less loop-again returns)

@@ -2,15 +2,17 @@
 use mathlib.Core.Path.{_≡_, refl}
 use Prim.Native.Nat.{_-_, _≤_}
 use native.Mathlib.Omega.{arith}
+use lib.Dec.{eqb}
 use borrow.Author.Needs.{needs}
 use Rattle.laws.specs.Masks.{maskOf}
-use Rattle.laws.proofs.Masks.{mask-none, mask-turn, mask-below, mask-done}
-use Rattle.counting.specs.ByMask.{kindAt, kindMask}
+use Rattle.laws.proofs.Masks.{mask-none, mask-more, mask-below, mask-done}
+use Rattle.counting.specs.Filter.{inputAt}
+use Rattle.counting.specs.ByMask.{kindMask}
 use Rattle.counting.proofs.filter.kind_mask.Statement.{statement}
 use Rattle.counting.proofs.filter.kind_mask.Tie as tie
 
 abbrev Inv-loop : tie.InvT-loop
-Inv-loop kind inputs mask₀ i₀ mask i = (i ≤ 16) × (mask ≡ maskOf i (kindAt inputs kind))
+Inv-loop kind inputs mask₀ i₀ mask i = (i ≤ 16) × (mask ≡ maskOf i (λ k. eqb (inputAt inputs k .kind) kind))
 
 abbrev μ-loop : tie.MeasureT-loop
 μ-loop kind inputs mask₀ i₀ mask i = 16 - i
@@ -18,11 +20,11 @@ abbrev μ-loop : tie.MeasureT-loop
 loop-holds : tie.Need-loop-holds Inv-loop μ-loop
 loop-holds c = (search needs, mask-none _)
 
-with-bit-requires : tie.Need-with-bit-requires Inv-loop μ-loop
-with-bit-requires c κs = (omega arith, rw (c .before .before .before .loop .inv .1) (mask-below _ _))
-
 loop-again : tie.Need-loop-again Inv-loop μ-loop
-loop-again c = (omega arith, mask-turn _ _ (c .before .before .before .before .loop .inv .1) (c .with-bit .ensures) refl)
+loop-again c = (omega arith, mask-more _ _ (omega arith) (c .before .before .before .before .loop .inv .1) (c .with-bit .ensures) refl)
+
+cast-result : tie.Need-cast-result Inv-loop μ-loop
+cast-result c = record { fits = rw (mask-done 16 _ _ _ (c .before .loop .inv .1) (c .before .loop .inv .0) (c .loop-test .left)) (mask-below 16 _) }
 
 returns : tie.Need-returns Inv-loop μ-loop
 unfolding kindMask
@@ -31,14 +33,5 @@ returns c = mask-done 16 _ _ _ (c .before .loop .inv .1) (c .before .loop .inv .
 pub kind-mask-spec : {M : Type 1} → statement M
 kind-mask-spec =
     tie.close
-    (tie.spec
-    Inv-loop
-    μ-loop
-    loop-holds
-    (λ c. search needs)
-    (λ c. search needs)
-    with-bit-requires
-    (λ c. search needs)
-    (λ c. search needs)
-    loop-again
-    returns)
+    (tie.spec Inv-loop μ-loop loop-holds (λ c. search needs) (λ c. search needs) (λ c κs. search needs) (λ c. search needs) (λ c. search needs) loop-again
+    cast-result returns)

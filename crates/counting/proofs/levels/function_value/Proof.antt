@@ -2,7 +2,7 @@
 use mathlib.Core.Path.{_≡_, _∙_}
 use Prim.Native.Nat.{ℕ, _+_, _-_, _*_, _^_, _≤_}
 use native.Mathlib.Omega.{arith}
-use lib.IntN.{pos, natAbs}
+use lib.IntN.{pos, natAbs, _*ℤ_}
 use lib.ListN.{getD}
 use mir.Syntax.{w8, w64}
 use mir.Val.{SFits, toZ, ofZ}
@@ -13,12 +13,12 @@ use Rattle.laws.proofs.Arrays.{elem-sfits}
 use Rattle.laws.specs.SignedTotal.{totalℤ}
 use Rattle.laws.proofs.SignedTotal.{abs-fits, totalℤ-none, totalℤ-turn, totalℤ-done}
 use Rattle.counting.specs.Bills.{sumAt}
-use Rattle.counting.specs.Levels.{termAt, level2, functionValue}
+use Rattle.counting.specs.Levels.{level2, functionValue}
 use Rattle.counting.proofs.levels.function_value.Statement.{statement}
 use Rattle.counting.proofs.levels.function_value.Tie as tie
 
 abbrev Inv-loop : tie.InvT-loop
-Inv-loop function units coefficients sums value₀ k₀ value k = (k ≤ 8) × (toZ w64 value ≡ totalℤ k (termAt coefficients sums function units)) × (natAbs (toZ w64 value) ≤ k * 2 ^ 44)
+Inv-loop function units coefficients sums value₀ k₀ value k = (k ≤ 8) × (toZ w64 value ≡ totalℤ k (λ j. getD coefficients (function * 8 + j) (pos 0) *ℤ pos (sumAt sums units j))) × (natAbs (toZ w64 value) ≤ k * 2 ^ 44)
 
 abbrev μ-loop : tie.MeasureT-loop
 μ-loop function units coefficients sums value₀ k₀ value k = 8 - k
@@ -38,7 +38,7 @@ plus-times-requires : tie.Need-plus-times-requires Inv-loop μ-loop
 plus-times-requires c κs = (omega arith, c .sum-units .ensures .1)
 
 loop-again : tie.Need-loop-again Inv-loop μ-loop
-unfolding termAt sumAt
+unfolding sumAt
 loop-again c =
     let r = c .plus-times in
     let l = c .before .before .before .before .loop in
@@ -53,19 +53,5 @@ returns-2 c = rw (lt-ltb _ _ (c .before .before .if1 .left)) (totalℤ-done 8 _ 
 pub function-value-spec : {M : Type 1} → statement M
 function-value-spec =
     tie.close
-    (tie.spec
-    Inv-loop
-    μ-loop
-    returns
-    loop-holds
-    (λ c. search needs)
-    (λ c. search needs)
-    (λ c. search needs)
-    (λ c. search needs)
-    (λ c. search needs)
-    (λ c κs. search needs)
-    plus-times-requires
-    (λ c. search needs)
-    (λ c. search needs)
-    loop-again
-    returns-2)
+    (tie.spec Inv-loop μ-loop returns loop-holds (λ c. search needs) (λ c. search needs) (λ c. search needs) (λ c. search needs) (λ c. search needs)
+    (λ c κs. search needs) plus-times-requires (λ c. search needs) (λ c. search needs) loop-again returns-2)

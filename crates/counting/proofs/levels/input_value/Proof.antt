@@ -18,11 +18,4 @@ unfolding inputValue
 returns-2 c = rw (lt-ltb _ _ (c .before .if1 .left)) (toZ-ofZ {w = w64} (sfits-of (c .signed .ok)) ∙ c .signed .ensures)
 
 pub input-value-spec : {M : Type 1} → statement M
-input-value-spec =
-    tie.close
-    (tie.spec
-    returns
-    (λ c. search needs)
-    (λ c. search needs)
-    (λ c κs. search needs)
-    returns-2)
+input-value-spec = tie.close (tie.spec returns (λ c. search needs) (λ c. search needs) (λ c κs. search needs) returns-2)

@@ -9,9 +9,4 @@ returns : tie.Need-returns
 returns c = c .slot-values .ensures ∙ ap (slotValues _) (c .before .line-units .ensures)
 
 pub level9-spec : {M : Type 1} → statement M
-level9-spec =
-    tie.close
-    (tie.spec
-    (λ c κs. search needs)
-    (λ c κs. search needs)
-    returns)
+level9-spec = tie.close (tie.spec (λ c κs. search needs) (λ c κs. search needs) returns)

@@ -4,12 +4,13 @@ use Prim.Native.Nat.{_-_, _≤_}
 use native.Mathlib.Omega.{arith}
 use borrow.Author.Needs.{needs}
 use Rattle.laws.proofs.Tables.{fillTo, fill-none, fill-more, fill-done}
-use Rattle.counting.specs.Levels.{level0At, level0}
+use Rattle.counting.specs.Filter.{lineAt}
+use Rattle.counting.specs.Levels.{level0}
 use Rattle.counting.proofs.levels.line_units.Statement.{statement}
 use Rattle.counting.proofs.levels.line_units.Tie as tie
 
 abbrev Inv-loop : tie.InvT-loop
-Inv-loop lines units₀ i₀ units i = (i ≤ 16) × (units ≡ fillTo (level0At lines) i units₀)
+Inv-loop lines units₀ i₀ units i = (i ≤ 16) × (units ≡ fillTo (λ k. lineAt lines k .units) i units₀)
 
 abbrev μ-loop : tie.MeasureT-loop
 μ-loop lines units₀ i₀ units i = 16 - i
@@ -18,7 +19,6 @@ loop-holds : tie.Need-loop-holds Inv-loop μ-loop
 loop-holds c = (search needs, fill-none _ _)
 
 loop-again : tie.Need-loop-again Inv-loop μ-loop
-unfolding level0At
 loop-again c = (omega arith, fill-more _ _ _ _ _ (c .before .before .loop .inv .1) refl)
 
 returns : tie.Need-returns Inv-loop μ-loop
@@ -28,15 +28,5 @@ returns c = fill-done _ 16 _ _ _ (c .before .loop .inv .1) (c .before .loop .inv
 pub line-units-spec : {M : Type 1} → statement M
 line-units-spec =
     tie.close
-    (tie.spec
-    Inv-loop
-    μ-loop
-    loop-holds
-    (λ c. search needs)
-    (λ c. search needs)
-    (λ c. search needs)
-    (λ c. search needs)
-    (λ c. search needs)
-    (λ c. search needs)
-    loop-again
-    returns)
+    (tie.spec Inv-loop μ-loop loop-holds (λ c. search needs) (λ c. search needs) (λ c. search needs) (λ c. search needs) (λ c. search needs) (λ c. search needs)
+    loop-again returns)

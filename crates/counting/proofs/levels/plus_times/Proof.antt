@@ -22,11 +22,4 @@ returns : tie.Need-returns
 returns c = simp (plus-is (c .args .value) (c .args .coefficient) (c .args .units) (c .fits .value) (c .fits .coefficient) (c .pre .0) (c .pre .1), toZ-ofZ (sum-fits (c .args .value) (c .args .coefficient) (c .args .units) (c .fits .value) (c .fits .coefficient) (c .pre .0) (c .pre .1))) (refl, sum-near (c .args .value) (c .args .coefficient) (c .args .units) (c .fits .value) (c .fits .coefficient) (c .pre .0) (c .pre .1))
 
 pub plus-times-spec : {M : Type 1} → statement M
-plus-times-spec =
-    tie.close
-    (tie.spec
-    cast-result
-    cast-result-2
-    mul-result
-    add-result
-    returns)
+plus-times-spec = tie.close (tie.spec cast-result cast-result-2 mul-result add-result returns)

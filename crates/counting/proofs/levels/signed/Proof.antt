@@ -10,8 +10,4 @@ returns : tie.Need-returns
 returns c = toZ-pos w64 {n = c .args .units} (omega arith)
 
 pub signed-spec : {M : Type 1} → statement M
-signed-spec =
-    tie.close
-    (tie.spec
-    (λ c. search needs)
-    returns)
+signed-spec = tie.close (tie.spec (λ c. search needs) returns)

@@ -27,13 +27,4 @@ returns-4 c = simp (ne-eqb _ _ (c .before .before .before .before .if1 .left), n
 
 pub slot-value-spec : {M : Type 1} → statement M
 slot-value-spec =
-    tie.close
-    (tie.spec
-    (λ c. search needs)
-    (λ c κs. search needs)
-    returns
-    (λ c κs. search needs)
-    returns-2
-    (λ c κs. search needs)
-    returns-3
-    returns-4)
+    tie.close (tie.spec (λ c. search needs) (λ c κs. search needs) returns (λ c κs. search needs) returns-2 (λ c κs. search needs) returns-3 returns-4)

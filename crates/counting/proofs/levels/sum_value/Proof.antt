@@ -18,12 +18,4 @@ unfolding sumValue sumAt
 returns-2 c = rw (lt-ltb _ _ (c .before .if1 .left), toZ-pos w64 {n = c .sum-units .result} (omega (arith, c .sum-units .ensures .1)), c .sum-units .ensures .0)
 
 pub sum-value-spec : {M : Type 1} → statement M
-sum-value-spec =
-    tie.close
-    (tie.spec
-    returns
-    (λ c. search needs)
-    (λ c. search needs)
-    (λ c κs. search needs)
-    (λ c. search needs)
-    returns-2)
+sum-value-spec = tie.close (tie.spec returns (λ c. search needs) (λ c. search needs) (λ c κs. search needs) (λ c. search needs) returns-2)

@@ -11,10 +11,4 @@ returns-2 : tie.Need-returns-2
 returns-2 c = rw (le-ltb _ _ (c .if1 .left))
 
 pub held-sum-spec : {M : Type 1} → statement M
-held-sum-spec =
-    tie.close
-    (tie.spec
-    (λ c. search needs)
-    returns
-    (λ c. search needs)
-    returns-2)
+held-sum-spec = tie.close (tie.spec (λ c. search needs) returns (λ c. search needs) returns-2)

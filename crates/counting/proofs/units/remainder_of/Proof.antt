@@ -23,13 +23,4 @@ unfolding remainderOf
 returns-2 c = rw (ne-eqb _ _ (c .before .if1 .left))
 
 pub remainder-of-spec : {M : Type 1} → statement M
-remainder-of-spec =
-    tie.close
-    (tie.spec
-    (λ c. search needs)
-    returns
-    (λ c. search needs)
-    (λ c. search needs)
-    (λ c. search needs)
-    cast-result-2
-    returns-2)
+remainder-of-spec = tie.close (tie.spec (λ c. search needs) returns (λ c. search needs) (λ c. search needs) (λ c. search needs) cast-result-2 returns-2)

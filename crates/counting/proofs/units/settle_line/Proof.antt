@@ -16,12 +16,4 @@ returns-2 c = rw (← c .before .before .accepts .ensures, c .before .if1 .left,
 
 pub settle-line-spec : {M : Type 1} → statement M
 settle-line-spec =
-    tie.close
-    (tie.spec
-    (λ c κs. search needs)
-    (λ c κs. search needs)
-    (λ c κs. search needs)
-    (λ c κs. search needs)
-    returns
-    (λ c κs. search needs)
-    returns-2)
+    tie.close (tie.spec (λ c κs. search needs) (λ c κs. search needs) (λ c κs. search needs) (λ c κs. search needs) returns (λ c κs. search needs) returns-2)

@@ -14,12 +14,4 @@ unfolding unitsOf
 returns-2 c = rw (ne-eqb _ _ (c .before .if1 .left))
 
 pub units-of-spec : {M : Type 1} → statement M
-units-of-spec =
-    tie.close
-    (tie.spec
-    (λ c. search needs)
-    returns
-    (λ c. search needs)
-    (λ c. search needs)
-    (λ c. search needs)
-    returns-2)
+units-of-spec = tie.close (tie.spec (λ c. search needs) returns (λ c. search needs) (λ c. search needs) (λ c. search needs) returns-2)

@@ -14,12 +14,5 @@ slice-aggregate-read-register c = sym (length-take-le _ _ (array-borrow-prefix-b
 pub register-spec : {M : Type 1} → statement M
 register-spec =
     tie.close
-    (tie.spec
-    (λ c κs. search needs)
-    array-borrow-prefix-bytes
-    slice-aggregate-read-register
-    (λ c κs. search needs)
-    (λ c κs. search needs)
-    (λ c κs. search needs)
-    (λ c. search needs)
-    (λ c. search needs))
+    (tie.spec (λ c κs. search needs) array-borrow-prefix-bytes slice-aggregate-read-register (λ c κs. search needs) (λ c κs. search needs)
+    (λ c κs. search needs) (λ c. search needs) (λ c. search needs))

@@ -3,7 +3,8 @@ use mathlib.Core.Path.{sym, ap}
 use native.Mathlib.Nat.{le-trans, le-of-eq}
 use borrow.Author.Needs.{needs}
 use lib.Seq.{length-take-le}
-use Rattle.recorder.specs.Calls.{RunAnswered}
+use Rattle.laws.specs.Answers.{RunReply}
+use Rattle.recorder.specs.declared.Recorder.{Recorder}
 use Rattle.hall.proofs.Taken.{taken-le}
 use Rattle.hall.proofs.calls.take_piece.Statement.{statement}
 use Rattle.hall.proofs.calls.take_piece.Tie as tie
@@ -16,14 +17,8 @@ slice-aggregate-samples c = sym (length-take-le _ _ (array-share-prefix-all (c .
 
 returns : tie.Need-returns
 returns c =
-    rw (ap (λ (r : RunAnswered). r .taken) (c .samples .ensures))
+    rw (ap (λ (r : RunReply Recorder). r .taken) (c .samples .ensures))
     (le-trans (taken-le _ _ _) (le-of-eq (length-take-le _ _ (array-share-prefix-all (c .before .before)))))
 
 pub take-piece-spec : {M : Type 1} → statement M
-take-piece-spec =
-    tie.close
-    (tie.spec
-    array-share-prefix-all
-    slice-aggregate-samples
-    (λ c κs. search needs)
-    returns)
+take-piece-spec = tie.close (tie.spec array-share-prefix-all slice-aggregate-samples (λ c κs. search needs) returns)

@@ -1,7 +1,6 @@
 -- `hall::calls::take_samples` is safe and ends: what is left is at most the count, and no piece takes more than it has.
 use Prim.Native.Nat.{_≤_}
 use borrow.Author.Needs.{needs}
-use native.Mathlib.Omega.{arith}
 use Rattle.hall.proofs.calls.take_samples.Statement.{statement}
 use Rattle.hall.proofs.calls.take_samples.Tie as tie
 
@@ -14,19 +13,5 @@ abbrev μ-loop : tie.MeasureT-loop
 pub take-samples-spec : {M : Type 1} → statement M
 take-samples-spec =
     tie.close
-    (tie.spec
-    Inv-loop
-    μ-loop
-    (λ c. search needs)
-    (λ c κs. search needs)
-    (λ c κs. search needs)
-    (λ c κs. search needs)
-    (λ c. search needs)
-    (λ c. search needs)
-    (λ c. search needs)
-    (λ c. search needs)
-    (λ c. search needs)
-    (λ c. search needs)
-    (λ c. search needs)
-    (λ c. search needs)
-    (λ c. search needs))
+    (tie.spec Inv-loop μ-loop (λ c. search needs) (λ c κs. search needs) (λ c κs. search needs) (λ c κs. search needs) (λ c. search needs) (λ c. search needs)
+    (λ c. search needs) (λ c. search needs) (λ c. search needs) (λ c. search needs) (λ c. search needs) (λ c. search needs) (λ c. search needs))

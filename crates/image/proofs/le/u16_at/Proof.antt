@@ -9,11 +9,4 @@ returns : tie.Need-returns
 returns c = c .join16 .ensures ∙ le-2 (c .before .before .before .before .args .s .now) (c .before .before .before .before .args .at)
 
 pub u16-at-spec : {M : Type 1} → statement M
-u16-at-spec =
-    tie.close
-    (tie.spec
-    (λ c. search needs)
-    (λ c. search needs)
-    (λ c. search needs)
-    (λ c κs. search needs)
-    returns)
+u16-at-spec = tie.close (tie.spec (λ c. search needs) (λ c. search needs) (λ c. search needs) (λ c κs. search needs) returns)

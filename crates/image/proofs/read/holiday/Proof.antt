@@ -11,12 +11,4 @@ unfolding holidayOf
 returns c = rw (c .u16-at .ensures) (simp (getD-drop, drop-drop, add-zero))
 
 pub holiday-spec : {M : Type 1} → statement M
-holiday-spec =
-    tie.close
-    (tie.spec
-    (λ c. search needs)
-    (λ c. search needs)
-    (λ c. search needs)
-    (λ c. search needs)
-    (λ c κs. search needs)
-    returns)
+holiday-spec = tie.close (tie.spec (λ c. search needs) (λ c. search needs) (λ c. search needs) (λ c. search needs) (λ c κs. search needs) returns)

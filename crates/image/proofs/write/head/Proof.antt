@@ -26,12 +26,4 @@ returns c = refl
 pub head-spec : {M : Type 1} → statement M
 head-spec =
     tie.close
-    (tie.spec
-    (λ c. search needs)
-    slice-write-buf-2
-    slice-write-buf-3
-    slice-write-buf-4
-    slice-write-buf-5
-    (λ c. search needs)
-    (λ c. search needs)
-    returns)
+    (tie.spec (λ c. search needs) slice-write-buf-2 slice-write-buf-3 slice-write-buf-4 slice-write-buf-5 (λ c. search needs) (λ c. search needs) returns)

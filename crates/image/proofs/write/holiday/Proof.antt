@@ -25,13 +25,4 @@ same-length : tie.Need-same-length
 same-length c = ap length (returns c) ∙ simp length-sets
 
 pub holiday-spec : {M : Type 1} → statement M
-holiday-spec =
-    tie.close
-    (tie.spec
-    (λ c. search needs)
-    (λ c. search needs)
-    slice-write-buf-2
-    (λ c. search needs)
-    put-u16-requires
-    same-length
-    returns)
+holiday-spec = tie.close (tie.spec (λ c. search needs) (λ c. search needs) slice-write-buf-2 (λ c. search needs) put-u16-requires same-length returns)

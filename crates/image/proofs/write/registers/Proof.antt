@@ -3,7 +3,7 @@ use Prim.Native.Nat.{_-_}
 use borrow.Author.Needs.{needs}
 use Rattle.laws.proofs.Runs.{Stored, stored-none, stored-more, stored-all}
 use Rattle.image.specs.Entries.{registerBytes}
-use Rattle.settings.specs.Rules.{noRegister}
+use Rattle.settings.specs.Rules.{zeroRegister}
 use Rattle.image.proofs.Entries.{register}
 use Rattle.image.proofs.write.registers.Statement.{statement}
 use Rattle.image.proofs.write.registers.Tie as tie
@@ -19,7 +19,7 @@ loop-holds c = stored-none _ _ _ _ (search needs)
 
 loop-again : tie.Need-loop-again Inv-loop μ-loop
 loop-again c =
-    stored-more 2 (register .wide) noRegister (c .before .before .before .before .before .before .loop .inv) (c .before .before .before .before .before .loop-test .taken)
+    stored-more 2 (register .wide) zeroRegister (c .before .before .before .before .before .before .loop .inv) (c .before .before .before .before .before .loop-test .taken)
     (c .before .before .register .ensures)
 
 same-length : tie.Need-same-length Inv-loop μ-loop
@@ -31,17 +31,5 @@ returns c = stored-all (c .before .loop .inv) (c .loop-test .left)
 pub registers-spec : {M : Type 1} → statement M
 registers-spec =
     tie.close
-    (tie.spec
-    Inv-loop
-    μ-loop
-    loop-holds
-    (λ c. search needs)
-    (λ c. search needs)
-    (λ c. search needs)
-    (λ c. search needs)
-    (λ c κs. search needs)
-    (λ c. search needs)
-    (λ c. search needs)
-    loop-again
-    same-length
-    returns)
+    (tie.spec Inv-loop μ-loop loop-holds (λ c. search needs) (λ c. search needs) (λ c. search needs) (λ c. search needs) (λ c κs. search needs)
+    (λ c. search needs) (λ c. search needs) loop-again same-length returns)

@@ -23,13 +23,5 @@ returns c = let n = next (c .before .before .args .at) in rw (n .0, n .1, n .2)
 pub season-spec : {M : Type 1} → statement M
 season-spec =
     tie.close
-    (tie.spec
-    (λ c. search needs)
-    (λ c. search needs)
-    slice-write-buf-2
-    (λ c. search needs)
-    slice-write-buf-3
-    (λ c. search needs)
-    slice-write-buf-4
-    (λ c. search needs)
-    returns)
+    (tie.spec (λ c. search needs) (λ c. search needs) slice-write-buf-2 (λ c. search needs) slice-write-buf-3 (λ c. search needs) slice-write-buf-4
+    (λ c. search needs) returns)

@@ -3,7 +3,7 @@ use Prim.Native.Nat.{_-_}
 use borrow.Author.Needs.{needs}
 use Rattle.laws.proofs.Runs.{Stored, stored-none, stored-more, stored-all}
 use Rattle.image.specs.Entries.{seasonBytes}
-use Rattle.settings.specs.Rules.{noSeason}
+use Rattle.settings.specs.Rules.{zeroSeason}
 use Rattle.image.proofs.Entries.{season}
 use Rattle.image.proofs.write.seasons.Statement.{statement}
 use Rattle.image.proofs.write.seasons.Tie as tie
@@ -19,7 +19,7 @@ loop-holds c = stored-none _ _ _ _ (search needs)
 
 loop-again : tie.Need-loop-again Inv-loop μ-loop
 loop-again c =
-    stored-more 4 (season .wide) noSeason (c .before .before .before .before .before .before .loop .inv) (c .before .before .before .before .before .loop-test .taken)
+    stored-more 4 (season .wide) zeroSeason (c .before .before .before .before .before .before .loop .inv) (c .before .before .before .before .before .loop-test .taken)
     (c .before .before .season .ensures)
 
 same-length : tie.Need-same-length Inv-loop μ-loop
@@ -31,17 +31,5 @@ returns c = stored-all (c .before .loop .inv) (c .loop-test .left)
 pub seasons-spec : {M : Type 1} → statement M
 seasons-spec =
     tie.close
-    (tie.spec
-    Inv-loop
-    μ-loop
-    loop-holds
-    (λ c. search needs)
-    (λ c. search needs)
-    (λ c. search needs)
-    (λ c. search needs)
-    (λ c κs. search needs)
-    (λ c. search needs)
-    (λ c. search needs)
-    loop-again
-    same-length
-    returns)
+    (tie.spec Inv-loop μ-loop loop-holds (λ c. search needs) (λ c. search needs) (λ c. search needs) (λ c. search needs) (λ c κs. search needs)
+    (λ c. search needs) (λ c. search needs) loop-again same-length returns)

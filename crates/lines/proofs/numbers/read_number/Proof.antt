@@ -1,8 +1,8 @@
 -- `lines::numbers::read_number` meets its contract. The invariant: the word is a number if digits go on from here, and then it is the number that they make.
-use mathlib.Core.Path.{_≡_, refl, sym, ap, _∙_}
+use mathlib.Core.Path.{_≡_, refl, sym, _∙_}
 use mathlib.Core.Bool.{true, false}
 use mathlib.Core.List.{List}
-use Prim.Native.Nat.{ℕ, _+_, _≤_, _-_}
+use Prim.Native.Nat.{ℕ, _≤_, _-_}
 use native.Mathlib.Omega.{arith}
 use borrow.Author.Needs.{needs}
 use borrow.Author.Tests.{lt-ltb, leb-true, not-true, not-false}
@@ -13,8 +13,6 @@ use Rattle.lines.specs.Numbers.{isDigit, isNumber, valueFrom, wholeOf, n
 use Rattle.lines.proofs.Digits.{goesOn, too-large, on-turn, value-turn, on-letter, on-end, value-end}
 use Rattle.lines.proofs.numbers.read_number.Statement.{statement}
 use Rattle.lines.proofs.numbers.read_number.Tie as tie
-use Rattle.lines.proofs.numbers.read_number.Reads as reads
-use Rattle.lines.proofs.numbers.read_number.Lts as lts
 
 abbrev Inv-loop : tie.InvT-loop
 Inv-loop w most value₀ i₀ value i =
@@ -95,25 +93,5 @@ returns-4 c =
 pub read-number-spec : {M : Type 1} → statement M
 read-number-spec =
     tie.close
-    (tie.spec
-    Inv-loop
-    μ-loop
-    (λ c κs. search needs)
-    returns
-    loop-holds
-    (λ c. search needs)
-    (λ c κs. search needs)
-    (λ c κs. search needs)
-    returns-2
-    cast-next
-    mul-next
-    sub-next
-    cast-next-2
-    add-next
-    (λ c κs. search needs)
-    returns-3
-    (λ c. search needs)
-    (λ c. search needs)
-    (λ c. search needs)
-    loop-again
-    returns-4)
+    (tie.spec Inv-loop μ-loop (λ c κs. search needs) returns loop-holds (λ c. search needs) (λ c κs. search needs) (λ c κs. search needs) returns-2 cast-next
+    mul-next sub-next cast-next-2 add-next (λ c κs. search needs) returns-3 (λ c. search needs) (λ c. search needs) (λ c. search needs) loop-again returns-4)

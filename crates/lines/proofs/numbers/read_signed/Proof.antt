@@ -17,8 +17,6 @@ use borrow.Author.Tests.{eq-eqb, ne-eqb}
 use Rattle.lines.specs.Numbers.{isNumber, wholeOf, signedOf}
 use Rattle.lines.proofs.numbers.read_signed.Statement.{statement}
 use Rattle.lines.proofs.numbers.read_signed.Tie as tie
-use Rattle.lines.proofs.numbers.read_signed.Reads as reads
-use Rattle.lines.proofs.numbers.read_signed.Lts as lts
 
 -- an empty word is no number
 empty : (w : List ℕ) → length w ≡ 0 → record { ok = false; value = pos 0 } ≡ signedOf w
@@ -53,15 +51,5 @@ returns-3 c =
 pub read-signed-spec : {M : Type 1} → statement M
 read-signed-spec =
     tie.close
-    (tie.spec
-    returns
-    (λ c. search needs)
-    (λ c. search needs)
-    (λ c. search needs)
-    (λ c. search needs)
-    (λ c κs. search needs)
-    (λ c κs. search needs)
-    returns-2
-    (λ c κs. search needs)
-    (λ c. search needs)
-    returns-3)
+    (tie.spec returns (λ c. search needs) (λ c. search needs) (λ c. search needs) (λ c. search needs) (λ c κs. search needs) (λ c κs. search needs) returns-2
+    (λ c κs. search needs) (λ c. search needs) returns-3)

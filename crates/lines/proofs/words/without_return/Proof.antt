@@ -23,12 +23,4 @@ unfolding withoutReturn
 returns-3 c = rw (ne-eqb _ 13 (c .if2 .left))
 
 pub without-return-spec : {M : Type 1} → statement M
-without-return-spec =
-    tie.close
-    (tie.spec
-    returns
-    (λ c. search needs)
-    (λ c. search needs)
-    slice-aggregate-result
-    returns-2
-    returns-3)
+without-return-spec = tie.close (tie.spec returns (λ c. search needs) (λ c. search needs) slice-aggregate-result returns-2 returns-3)

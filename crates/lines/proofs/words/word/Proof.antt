@@ -1,19 +1,17 @@
 -- `lines::words::word` meets its contract. The invariant: the word is the one with the number that is left, of the text from here on.
-use mathlib.Core.Path.{_≡_, refl, sym, ap, _∙_}
+use mathlib.Core.Path.{_≡_, refl, sym, _∙_}
 use mathlib.Core.List.{List, []}
 use Prim.Native.Nat.{ℕ, zero, suc, _+_, _≤_, _<_, _-_}
 use native.Mathlib.Nat.{not-suc-le-zero}
 use native.Mathlib.Omega.{arith}
 use borrow.Author.Needs.{needs}
-use lib.ListN.{length, take, drop, length-drop}
+use lib.ListN.{length, drop, length-drop}
 use lib.Seq.{drop-drop}
 use Rattle.lines.specs.Words.{blankAt}
 use Rattle.lines.specs.Words.{word as wordOf}
 use Rattle.lines.proofs.Splits.{first-word, later-word, no-later-word}
 use Rattle.lines.proofs.words.word.Statement.{statement}
 use Rattle.lines.proofs.words.word.Tie as tie
-use Rattle.lines.proofs.words.word.Reads as reads
-use Rattle.lines.proofs.words.word.Lts as lts
 
 abbrev Inv-loop : tie.InvT-loop
 Inv-loop text k start₀ left₀ start left = (start ≤ length text) × (wordOf k text ≡ wordOf left (drop start text))
@@ -62,21 +60,6 @@ returns-2 c =
 pub word-spec : {M : Type 1} → statement M
 word-spec =
     tie.close
-    (tie.spec
-    Inv-loop
-    μ-loop
-    (λ c. (omega arith, refl))
-    (λ c κs. search needs)
-    (λ c. search needs)
-    (λ c. search needs)
-    (λ c. search needs)
-    returns
-    (λ c. search needs)
-    (λ c. search needs)
-    (λ c. search needs)
-    loop-again
-    (λ c κs. search needs)
-    (λ c. search needs)
-    (λ c. search needs)
-    (λ c. search needs)
+    (tie.spec Inv-loop μ-loop (λ c. (omega arith, refl)) (λ c κs. search needs) (λ c. search needs) (λ c. search needs) (λ c. search needs) returns
+    (λ c. search needs) (λ c. search needs) (λ c. search needs) loop-again (λ c κs. search needs) (λ c. search needs) (λ c. search needs) (λ c. search needs)
     returns-2)

@@ -11,8 +11,4 @@ returns : tie.Need-returns
 returns c = ap (beside _) (rw (toZ-ofZ {w = w32} (c .before .before .before .before .fits .value)) at (c .before .read .ensures))
 
 pub reading-spec : {M : Type 1} → statement M
-reading-spec =
-    tie.close
-    (tie.spec
-    (λ c κs. search needs)
-    returns)
+reading-spec = tie.close (tie.spec (λ c κs. search needs) returns)

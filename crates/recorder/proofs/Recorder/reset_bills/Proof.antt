@@ -7,8 +7,4 @@ returns : tie.Need-returns
 returns c = rw (c .reset .ensures)
 
 pub reset-bills-spec : {M : Type 1} → statement M
-reset-bills-spec =
-    tie.close
-    (tie.spec
-    (λ c κs. search needs)
-    returns)
+reset-bills-spec = tie.close (tie.spec (λ c κs. search needs) returns)

@@ -10,8 +10,4 @@ returns : tie.Need-returns
 returns c = ap (beside _) (one-sample _ _ _ _ (c .before .one .ensures))
 
 pub sample-spec : {M : Type 1} → statement M
-sample-spec =
-    tie.close
-    (tie.spec
-    (λ c κs. search needs)
-    returns)
+sample-spec = tie.close (tie.spec (λ c κs. search needs) returns)

@@ -9,8 +9,4 @@ returns : tie.Need-returns
 returns c = ap (runBeside _) (c .before .run .ensures)
 
 pub samples-spec : {M : Type 1} → statement M
-samples-spec =
-    tie.close
-    (tie.spec
-    (λ c κs. search needs)
-    returns)
+samples-spec = tie.close (tie.spec (λ c κs. search needs) returns)

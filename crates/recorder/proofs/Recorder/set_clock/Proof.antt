@@ -9,8 +9,4 @@ returns : tie.Need-returns
 returns c = ap (beside _) (c .before .set .ensures)
 
 pub set-clock-spec : {M : Type 1} → statement M
-set-clock-spec =
-    tie.close
-    (tie.spec
-    (λ c κs. search needs)
-    returns)
+set-clock-spec = tie.close (tie.spec (λ c κs. search needs) returns)

@@ -13,8 +13,4 @@ unfolding closedBill
 returns-2 c = rw (le-ltb _ _ (c .if1 .left))
 
 pub close-bill-spec : {M : Type 1} → statement M
-close-bill-spec =
-    tie.close
-    (tie.spec
-    returns
-    returns-2)
+close-bill-spec = tie.close (tie.spec returns returns-2)

@@ -15,12 +15,4 @@ unfolding setOf
 returns-2 c = rw (sym (c .before .before .moment-of .ensures) ∙ ap datedSaid (c .enum-told2 .given .1))
 
 pub set-spec : {M : Type 1} → statement M
-set-spec =
-    tie.close
-    (tie.spec
-    (λ c κs. search needs)
-    (λ c. search needs)
-    (λ c κs. search needs)
-    (λ c. search needs)
-    returns
-    returns-2)
+set-spec = tie.close (tie.spec (λ c κs. search needs) (λ c. search needs) (λ c κs. search needs) (λ c. search needs) returns returns-2)

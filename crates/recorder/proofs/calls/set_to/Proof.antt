@@ -9,9 +9,4 @@ unfolding setTo
 returns c = rw (c .cleared .ensures, c .before .close-period .ensures)
 
 pub set-to-spec : {M : Type 1} → statement M
-set-to-spec =
-    tie.close
-    (tie.spec
-    (λ c κs. search needs)
-    (λ c κs. search needs)
-    returns)
+set-to-spec = tie.close (tie.spec (λ c κs. search needs) (λ c κs. search needs) returns)

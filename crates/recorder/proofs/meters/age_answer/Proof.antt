@@ -20,10 +20,4 @@ unfolding ageOf
 returns-3 c = simp (ne-eqb _ _ (c .before .before .if1 .left), le-ltb _ _ (c .before .if2 .left)) (ap given (c .age-class .ensures))
 
 pub age-answer-spec : {M : Type 1} → statement M
-age-answer-spec =
-    tie.close
-    (tie.spec
-    returns
-    returns-2
-    (λ c κs. search needs)
-    returns-3)
+age-answer-spec = tie.close (tie.spec returns returns-2 (λ c κs. search needs) returns-3)

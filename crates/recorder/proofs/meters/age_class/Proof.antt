@@ -22,11 +22,4 @@ unfolding classOf
 returns-4 c = simp (c .before .before .if1 .left, le-ltb _ _ (c .before .if2 .left), ne-eqb _ _ (c .if3 .left))
 
 pub age-class-spec : {M : Type 1} → statement M
-age-class-spec =
-    tie.close
-    (tie.spec
-    returns
-    (λ c. search needs)
-    returns-2
-    returns-3
-    returns-4)
+age-class-spec = tie.close (tie.spec returns (λ c. search needs) returns-2 returns-3 returns-4)

@@ -84,30 +84,6 @@ returns-10 c =
 pub contents-spec : {M : Type 1} → statement M
 contents-spec =
     tie.close
-    (tie.spec
-    meter-requires
-    (λ c κs. search needs)
-    cast-daily
-    (λ c κs. search needs)
-    cast-weekly
-    (λ c κs. search needs)
-    slot-requires
-    (λ c. search needs)
-    array-copy-out-b
-    (λ c κs. search needs)
-    (λ c. search needs)
-    array-copy-out-line
-    (λ c κs. search needs)
-    (λ c κs. search needs)
-    (λ c κs. search needs)
-    (λ c κs. search needs)
-    returns
-    returns-2
-    returns-3
-    returns-4
-    returns-5
-    returns-6
-    returns-7
-    returns-8
-    returns-9
-    returns-10)
+    (tie.spec meter-requires (λ c κs. search needs) cast-daily (λ c κs. search needs) cast-weekly (λ c κs. search needs) slot-requires (λ c. search needs)
+    array-copy-out-b (λ c κs. search needs) (λ c. search needs) array-copy-out-line (λ c κs. search needs) (λ c κs. search needs) (λ c κs. search needs)
+    (λ c κs. search needs) returns returns-2 returns-3 returns-4 returns-5 returns-6 returns-7 returns-8 returns-9 returns-10)

@@ -11,11 +11,4 @@ unfolding bytesOf filterBytes
 returns c = c .with-number2 .ensures ∙ rw (c .before .before .with-number .ensures)
 
 pub input-spec : {M : Type 1} → statement M
-input-spec =
-    tie.close
-    (tie.spec
-    (λ c. search needs)
-    (λ c κs. search needs)
-    (λ c. search needs)
-    (λ c κs. search needs)
-    returns)
+input-spec = tie.close (tie.spec (λ c. search needs) (λ c κs. search needs) (λ c. search needs) (λ c κs. search needs) returns)

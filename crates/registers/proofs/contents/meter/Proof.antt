@@ -12,12 +12,4 @@ returns c = c .serial .ensures ∙ rw (c .before .meter-class .ensures)
 
 pub meter-spec : {M : Type 1} → statement M
 meter-spec =
-    tie.close
-    (tie.spec
-    (λ c. search needs)
-    (λ c. search needs)
-    (λ c. search needs)
-    (λ c. search needs)
-    (λ c κs. search needs)
-    (λ c κs. search needs)
-    returns)
+    tie.close (tie.spec (λ c. search needs) (λ c. search needs) (λ c. search needs) (λ c. search needs) (λ c κs. search needs) (λ c κs. search needs) returns)

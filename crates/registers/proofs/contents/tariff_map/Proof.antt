@@ -11,10 +11,4 @@ unfolding bytesOf mapBytes
 returns c = c .with-number .ensures ∙ rw (c .before .force-map-at .ensures)
 
 pub tariff-map-spec : {M : Type 1} → statement M
-tariff-map-spec =
-    tie.close
-    (tie.spec
-    (λ c κs. search needs)
-    (λ c. search needs)
-    (λ c κs. search needs)
-    returns)
+tariff-map-spec = tie.close (tie.spec (λ c κs. search needs) (λ c. search needs) (λ c κs. search needs) returns)

@@ -117,26 +117,7 @@ returns c =
 pub fleet-of-spec : {M : Type 1} → statement M
 fleet-of-spec =
     tie.close
-    (tie.spec
-    Inv-loop
-    μ-loop
-    loop-holds
-    (λ c. search needs)
-    (λ c. search needs)
-    (λ c. search needs)
-    (λ c. search needs)
-    (λ c κs. search needs)
-    (λ c κs. search needs)
-    (λ c κs. search needs)
-    (λ c κs. search needs)
-    (λ c κs. search needs)
-    plus-if-requires
-    (λ c. search needs)
-    (λ c. search needs)
-    loop-again
-    cast-t26
-    (λ c. ones-fit _ (whole c 0 (c .before .loop .inv .1)))
-    (λ c. ones-fit _ (whole c 1 (c .before .loop .inv .2)))
-    (λ c. ones-fit _ (whole c 2 (c .before .loop .inv .3)))
-    (λ c. ones-fit _ (whole c 3 (c .before .loop .inv .4)))
-    returns)
+    (tie.spec Inv-loop μ-loop loop-holds (λ c. search needs) (λ c. search needs) (λ c. search needs) (λ c. search needs) (λ c κs. search needs)
+    (λ c κs. search needs) (λ c κs. search needs) (λ c κs. search needs) (λ c κs. search needs) plus-if-requires (λ c. search needs) (λ c. search needs)
+    loop-again cast-t26 (λ c. ones-fit _ (whole c 0 (c .before .loop .inv .1))) (λ c. ones-fit _ (whole c 1 (c .before .loop .inv .2)))
+    (λ c. ones-fit _ (whole c 2 (c .before .loop .inv .3))) (λ c. ones-fit _ (whole c 3 (c .before .loop .inv .4))) returns)

@@ -15,11 +15,4 @@ unfolding meterClass
 returns-2 c = simp (ne-eqb _ _ (c .before .before .before .if1 .left)) (c .age-number .ensures ∙ c .before .age-class .ensures)
 
 pub meter-class-spec : {M : Type 1} → statement M
-meter-class-spec =
-    tie.close
-    (tie.spec
-    returns
-    (λ c. search needs)
-    (λ c κs. search needs)
-    (λ c κs. search needs)
-    returns-2)
+meter-class-spec = tie.close (tie.spec returns (λ c. search needs) (λ c κs. search needs) (λ c κs. search needs) returns-2)

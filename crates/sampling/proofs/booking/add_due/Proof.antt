@@ -8,8 +8,8 @@ use lib.Count.{trailingZeros, trailing-le}
 use lib.ListN.{getD}
 use Rattle.laws.proofs.Tables.{table-self}
 use Rattle.counting.specs.Bills.{registerAt, unitAt, registerUnits}
-use Rattle.counting.proofs.Sparse.{Half, half-start, half-next, half-turn, half-done, lowest-below, lowest-on, drop-less}
-use Rattle.counting.proofs.Full.{not-filled, booked-by-mask}
+use Rattle.laws.proofs.Sparse.{Half, half-start, half-next, half-turn, half-done, lowest-below, lowest-on, drop-less}
+use Rattle.counting.proofs.Full.{not-filled, booked-of-fed}
 use Rattle.sampling.proofs.booking.add_due.Statement.{statement}
 use Rattle.sampling.proofs.booking.add_due.Tie as tie
 
@@ -46,25 +46,11 @@ loop-again c =
     (omega (arith, drop-less _ p), trailing-le 16 _, half-turn _ _ _ p (h .0) (h .2) (c .with-due .ensures ∙ rw (c .before .register-units .ensures, next (c .before .before .before .before))))
 
 returns : tie.Need-returns Inv-loop μ-loop
-returns c = half-done _ _ _ (omega arith) (c .before .loop .inv .2) ∙ booked-by-mask _ _ _ _ (c .before .before .pre .1)
+returns c = half-done _ _ _ (omega arith) (c .before .loop .inv .2) ∙ booked-of-fed _ _ _ _ (c .before .before .pre .1)
 
 pub add-due-spec : {M : Type 1} → statement M
 add-due-spec =
     tie.close
-    (tie.spec
-    Inv-loop
-    μ-loop
-    loop-holds
-    (λ c. search needs)
-    (λ c. search needs)
-    (λ c. search (needs, lowest-below))
-    (λ c. search needs)
-    (λ c. search (needs, lowest-below))
-    (λ c κs. search needs)
-    with-due-requires
-    (λ c. search needs)
-    (λ c. search (needs, lowest-below))
-    (λ c. search needs)
-    loop-less
-    loop-again
-    returns)
+    (tie.spec Inv-loop μ-loop loop-holds (λ c. search needs) (λ c. search needs) (λ c. search (needs, lowest-below)) (λ c. search needs)
+    (λ c. search (needs, lowest-below)) (λ c κs. search needs) with-due-requires (λ c. search needs) (λ c. search (needs, lowest-below)) (λ c. search needs)
+    loop-less loop-again returns)

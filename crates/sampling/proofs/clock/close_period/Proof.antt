@@ -9,8 +9,4 @@ unfolding closedAs
 returns c = rw (c .level9 .ensures)
 
 pub close-period-spec : {M : Type 1} → statement M
-close-period-spec =
-    tie.close
-    (tie.spec
-    (λ c κs. search needs)
-    returns)
+close-period-spec = tie.close (tie.spec (λ c κs. search needs) returns)

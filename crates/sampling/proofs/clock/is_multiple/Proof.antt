@@ -14,10 +14,4 @@ unfolding multiple
 returns-2 c = rw (ne-eqb _ _ (c .if1 .left))
 
 pub is-multiple-spec : {M : Type 1} → statement M
-is-multiple-spec =
-    tie.close
-    (tie.spec
-    (λ c. search needs)
-    returns
-    (λ c. search needs)
-    returns-2)
+is-multiple-spec = tie.close (tie.spec (λ c. search needs) returns (λ c. search needs) returns-2)

@@ -10,9 +10,4 @@ returns-2 : tie.Need-returns-2
 returns-2 c = rw (← c .before .is-multiple .ensures, c .if1 .left)
 
 pub step-state-spec : {M : Type 1} → statement M
-step-state-spec =
-    tie.close
-    (tie.spec
-    (λ c κs. search needs)
-    returns
-    returns-2)
+step-state-spec = tie.close (tie.spec (λ c κs. search needs) returns returns-2)

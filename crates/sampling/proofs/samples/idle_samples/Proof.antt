@@ -67,25 +67,6 @@ returns-2 c = let i = c .before .loop2 .inv in (omega (arith, i), omega (arith, 
 pub idle-samples-spec : {M : Type 1} → statement M
 idle-samples-spec =
     tie.close
-    (tie.spec
-    Inv-loop
-    μ-loop
-    Inv-loop2
-    μ-loop2
-    (λ c κs. search needs)
-    loop-holds
-    (λ c. search needs)
-    some-of-eight-requires
-    (λ c. search needs)
-    loop-less
-    loop-again
-    loop2-holds
-    (λ c. search needs)
-    (λ c. omega (arith, c .before .loop2-test .taken, c .before .before .loop2 .inv .2))
-    (λ c. search needs)
-    returns
-    (λ c. search needs)
-    (λ c. search needs)
-    loop2-again
-    (λ c. search needs)
-    returns-2)
+    (tie.spec Inv-loop μ-loop Inv-loop2 μ-loop2 (λ c κs. search needs) loop-holds (λ c. search needs) some-of-eight-requires (λ c. search needs) loop-less
+    loop-again loop2-holds (λ c. search needs) (λ c. omega (arith, c .before .loop2-test .taken, c .before .before .loop2 .inv .2)) (λ c. search needs) returns
+    (λ c. search needs) (λ c. search needs) loop2-again (λ c. search needs) returns-2)

@@ -6,8 +6,8 @@ use borrow.Author.Needs.{needs}
 use lib.Count.{trailingZeros, trailing-le}
 use Rattle.laws.proofs.Tables.{table-self}
 use Rattle.counting.specs.Filter.{lineAt}
-use Rattle.counting.proofs.Sparse.{Half, half-start, half-turn, half-done, lowest-below, drop-less}
-use Rattle.sampling.specs.Kept.{restoredAt, restoredLines}
+use Rattle.laws.proofs.Sparse.{Half, half-start, half-turn, half-done, lowest-below, drop-less}
+use Rattle.sampling.specs.Kept.{restoredLines}
 use Rattle.sampling.proofs.samples.restored.Statement.{statement}
 use Rattle.sampling.proofs.samples.restored.Tie as tie
 
@@ -30,22 +30,11 @@ loop-again c =
     (omega (arith, drop-less _ p), trailing-le 16 _, half-turn _ _ _ p (h .0) (h .2) refl)
 
 returns : tie.Need-returns Inv-loop μ-loop
-unfolding restoredLines restoredAt
+unfolding restoredLines
 returns c = half-done _ _ _ (omega arith) (c .before .loop .inv .2)
 
 pub restored-spec : {M : Type 1} → statement M
 restored-spec =
     tie.close
-    (tie.spec
-    Inv-loop
-    μ-loop
-    loop-holds
-    (λ c. search needs)
-    (λ c. search needs)
-    (λ c. search (needs, lowest-below))
-    (λ c. search needs)
-    (λ c. search (needs, lowest-below))
-    (λ c. search needs)
-    loop-less
-    loop-again
-    returns)
+    (tie.spec Inv-loop μ-loop loop-holds (λ c. search needs) (λ c. search needs) (λ c. search (needs, lowest-below)) (λ c. search needs)
+    (λ c. search (needs, lowest-below)) (λ c. search needs) loop-less loop-again returns)

@@ -17,7 +17,7 @@ use Rattle.laws.specs.Tables.{table}
 use Rattle.laws.proofs.Tables.{table-at, length-table, table-self}
 use Rattle.counting.specs.Filter.{inputAt, lineAt, nextRun}
 use Rattle.counting.specs.Bills.{unitAt}
-use Rattle.counting.specs.ByMask.{runningLines, withRun, advancedAt, advancedLines, settled, settledUnits, settledAt, settledUnitsAt, settledOf, withAmounts}
+use Rattle.counting.specs.ByMask.{runningLines, withRun, advancedLines, settled, settledUnits, settledOf, withAmounts}
 use Rattle.counting.specs.declared.Line.{Line}
 use Rattle.sampling.specs.Samples.{activeLines, putIn, sampleNumber}
 use Rattle.sampling.specs.Laps.{lapOf}
@@ -25,7 +25,7 @@ use Rattle.sampling.specs.Kept.{InForce}
 use Rattle.sampling.specs.declared.booking.Tariffs.{Tariffs}
 use Rattle.sampling.specs.declared.SampleAnswer.the-variants.{Taken}
 use Rattle.counting.proofs.Parts.{own-amounts}
-use Rattle.counting.proofs.Sparse.{Half, half-start, half-next, half-turn, half-done, lowest-below, drop-less}
+use Rattle.laws.proofs.Sparse.{Half, half-start, half-next, half-turn, half-done, lowest-below, drop-less}
 use Rattle.sampling.proofs.Books.{full-booking, Left, unended, ended, still-none, put-back, others-none, ending-below, kept-amounts}
 use Rattle.sampling.proofs.Laps.{after, goes-on, closes-there, is-refused, is-done}
 use Rattle.sampling.proofs.Turns.{active-mask, counts-on, sample-end, sample-full, sample-counted, sample-ticked, running-after, aged-in-force, idle-on, not-at-end}
@@ -124,12 +124,12 @@ loop2-again c =
 
 -- after the inner loop all of them are
 settles : (c : tie.After-loop2 Inv-loop2 μ-loop2 Inv-loop3 μ-loop3 Inv-loop μ-loop) → c .before .loop2 .lines ≡ settledOf (c .before .before .before .before .before .before .before .before .before .before .before .before .before .before .before .before .args .config .inputs) (c .before .before .before .before .before .before .before .loop .lines) (ends-now (c .before .before .before)) .lines
-unfolding settledOf settledAt
+unfolding settledOf
 settles c = half-done _ _ _ (omega arith) (c .before .loop2 .inv .2)
 
 -- and their units are there
 brings : (c : tie.After-loop2 Inv-loop2 μ-loop2 Inv-loop3 μ-loop3 Inv-loop μ-loop) → c .before .loop2 .units ≡ settledOf (c .before .before .before .before .before .before .before .before .before .before .before .before .before .before .before .before .args .config .inputs) (c .before .before .before .before .before .before .before .loop .lines) (ends-now (c .before .before .before)) .units
-unfolding settledOf settledUnitsAt
+unfolding settledOf
 brings c = half-done _ _ _ (omega arith) (c .before .loop2 .inv .3)
 
 tariffs-at-requires : tie.Need-tariffs-at-requires Inv-loop2 μ-loop2 Inv-loop3 μ-loop3 Inv-loop μ-loop
@@ -172,7 +172,7 @@ loop3-again c =
 
 -- after the inner loop all of them have
 advanced : (c : tie.After-loop3 Inv-loop2 μ-loop2 Inv-loop3 μ-loop3 Inv-loop μ-loop) → c .before .loop3 .lines ≡ advancedLines (c .before .before .if4 .lines) (mask (c .before .before .before))
-unfolding advancedLines advancedAt
+unfolding advancedLines
 advanced c = half-done _ _ _ (omega arith) (c .before .loop3 .inv .2)
 
 loop-again-2 : tie.Need-loop-again-2 Inv-loop2 μ-loop2 Inv-loop3 μ-loop3 Inv-loop μ-loop
@@ -245,68 +245,15 @@ returns c = rw (c .put-in .ensures, c .before .put-amounts .ensures) (left (c .b
 pub take-spec : {M : Type 1} → statement M
 take-spec =
     tie.close
-    (tie.spec
-    Inv-loop2
-    μ-loop2
-    Inv-loop3
-    μ-loop3
-    Inv-loop
-    μ-loop
-    (λ c κs. search needs)
-    (λ c κs. search needs)
-    (λ c κs. search needs)
-    (λ c κs. search needs)
-    loop-holds
-    (λ c κs. search needs)
-    (λ c κs. search needs)
-    (λ c. record { fits = omega (arith, still c) })
-    (λ c. record { fits = omega (arith, still c) })
-    (λ c. search (needs, c .before .idle-samples .ensures .1))
-    (λ c. omega (arith, c .if2 .taken, c .before .idle-samples .ensures .1))
-    loop-again
-    (λ c. search needs)
-    (λ c. search needs)
-    loop2-holds
-    (λ c. search needs)
-    (λ c. search needs)
-    (λ c. search (needs, lowest-below))
-    (λ c. search needs)
-    (λ c. search (needs, lowest-below))
-    (λ c κs. search needs)
-    (λ c. search needs)
-    (λ c. search (needs, lowest-below))
-    (λ c. search needs)
-    (λ c. search (needs, lowest-below))
-    (λ c. search needs)
-    (λ c. search (needs, lowest-below))
-    (λ c κs. search needs)
-    (λ c. search needs)
-    (λ c. search (needs, lowest-below))
-    (λ c. search needs)
-    (λ c. drop-less _ (c .before .before .before .before .before .loop2-test .taken))
-    loop2-again
-    tariffs-at-requires
-    book-requires
-    (λ c κs. search needs)
-    loop3-holds
-    (λ c. search needs)
-    (λ c. search needs)
-    (λ c. search (needs, lowest-below))
-    (λ c κs. search needs)
-    (λ c. search needs)
-    (λ c. search (needs, lowest-below))
-    (λ c. search needs)
-    (λ c. drop-less _ (c .before .before .before .loop3-test .taken))
-    loop3-again
-    (λ c. search needs)
-    (λ c. search needs)
-    (λ c. search needs)
-    loop-again-2
-    (λ c. record { fits = omega (arith, can-step c) })
-    (λ c κs. search needs)
-    (λ c κs. search needs)
-    (λ c. search needs)
-    loop-again-3
-    (λ c κs. search needs)
-    (λ c κs. search needs)
-    returns)
+    (tie.spec Inv-loop2 μ-loop2 Inv-loop3 μ-loop3 Inv-loop μ-loop (λ c κs. search needs) (λ c κs. search needs) (λ c κs. search needs) (λ c κs. search needs)
+    loop-holds (λ c κs. search needs) (λ c κs. search needs) (λ c. record { fits = omega (arith, still c) }) (λ c. record { fits = omega (arith, still c) })
+    (λ c. search (needs, c .before .idle-samples .ensures .1)) (λ c. omega (arith, c .if2 .taken, c .before .idle-samples .ensures .1)) loop-again
+    (λ c. search needs) (λ c. search needs) loop2-holds (λ c. search needs) (λ c. search needs) (λ c. search (needs, lowest-below)) (λ c. search needs)
+    (λ c. search (needs, lowest-below)) (λ c κs. search needs) (λ c. search needs) (λ c. search (needs, lowest-below)) (λ c. search needs)
+    (λ c. search (needs, lowest-below)) (λ c. search needs) (λ c. search (needs, lowest-below)) (λ c κs. search needs) (λ c. search needs)
+    (λ c. search (needs, lowest-below)) (λ c. search needs) (λ c. drop-less _ (c .before .before .before .before .before .loop2-test .taken)) loop2-again
+    tariffs-at-requires book-requires (λ c κs. search needs) loop3-holds (λ c. search needs) (λ c. search needs) (λ c. search (needs, lowest-below))
+    (λ c κs. search needs) (λ c. search needs) (λ c. search (needs, lowest-below)) (λ c. search needs)
+    (λ c. drop-less _ (c .before .before .before .loop3-test .taken)) loop3-again (λ c. search needs) (λ c. search needs) (λ c. search needs) loop-again-2
+    (λ c. record { fits = omega (arith, can-step c) }) (λ c κs. search needs) (λ c κs. search needs) (λ c. search needs) loop-again-3 (λ c κs. search needs)
+    (λ c κs. search needs) returns)

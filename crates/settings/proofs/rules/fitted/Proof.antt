@@ -40,19 +40,5 @@ returns c = mask-done 16 _ _ _ (c .before .loop .inv .1) (c .before .loop .inv .
 pub fitted-spec : {M : Type 1} → statement M
 fitted-spec =
     tie.close
-    (tie.spec
-    Inv-loop
-    μ-loop
-    loop-holds
-    (λ c. search needs)
-    (λ c. search needs)
-    (λ c. search needs)
-    (λ c. search needs)
-    loop-again
-    (λ c. search needs)
-    (λ c. search needs)
-    add-mask
-    (λ c. search needs)
-    (λ c. search needs)
-    loop-again-2
-    returns)
+    (tie.spec Inv-loop μ-loop loop-holds (λ c. search needs) (λ c. search needs) (λ c. search needs) (λ c. search needs) loop-again (λ c. search needs)
+    (λ c. search needs) add-mask (λ c. search needs) (λ c. search needs) loop-again-2 returns)

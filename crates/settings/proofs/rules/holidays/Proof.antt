@@ -5,12 +5,12 @@ use borrow.Author.Needs.{needs}
 use borrow.Author.Tests.{not-true, not-false}
 use lib.ListN.{getD}
 use Rattle.laws.proofs.Broken.{Kept, kept-none, kept-more, kept-broken, kept-all}
-use Rattle.settings.specs.Rules.{holidayGood, noHoliday}
+use Rattle.settings.specs.Rules.{holidayGood, zeroHoliday}
 use Rattle.settings.proofs.rules.holidays.Statement.{statement}
 use Rattle.settings.proofs.rules.holidays.Tie as tie
 
 abbrev Inv-loop : tie.InvT-loop
-Inv-loop xs i₀ i = Kept 32 (λ (j : ℕ). holidayGood (getD xs j noHoliday)) i
+Inv-loop xs i₀ i = Kept 32 (λ (j : ℕ). holidayGood (getD xs j zeroHoliday)) i
 
 abbrev μ-loop : tie.MeasureT-loop
 μ-loop xs i₀ i = 32 - i
@@ -30,15 +30,5 @@ returns-2 c = kept-all (c .before .loop .inv) (c .loop-test .left)
 pub holidays-spec : {M : Type 1} → statement M
 holidays-spec =
     tie.close
-    (tie.spec
-    Inv-loop
-    μ-loop
-    loop-holds
-    (λ c. search needs)
-    (λ c. search needs)
-    (λ c κs. search needs)
-    returns
-    (λ c. search needs)
-    (λ c. search needs)
-    loop-again
-    returns-2)
+    (tie.spec Inv-loop μ-loop loop-holds (λ c. search needs) (λ c. search needs) (λ c κs. search needs) returns (λ c. search needs) (λ c. search needs)
+    loop-again returns-2)

@@ -5,12 +5,12 @@ use borrow.Author.Needs.{needs}
 use borrow.Author.Tests.{not-true, not-false}
 use lib.ListN.{getD}
 use Rattle.laws.proofs.Broken.{Kept, kept-none, kept-more, kept-broken, kept-all}
-use Rattle.settings.specs.Rules.{registerGood, noRegister}
+use Rattle.settings.specs.Rules.{registerGood, zeroRegister}
 use Rattle.settings.proofs.rules.registers.Statement.{statement}
 use Rattle.settings.proofs.rules.registers.Tie as tie
 
 abbrev Inv-loop : tie.InvT-loop
-Inv-loop xs i₀ i = Kept 16 (λ (j : ℕ). registerGood (getD xs j noRegister)) i
+Inv-loop xs i₀ i = Kept 16 (λ (j : ℕ). registerGood (getD xs j zeroRegister)) i
 
 abbrev μ-loop : tie.MeasureT-loop
 μ-loop xs i₀ i = 16 - i
@@ -30,15 +30,5 @@ returns-2 c = kept-all (c .before .loop .inv) (c .loop-test .left)
 pub registers-spec : {M : Type 1} → statement M
 registers-spec =
     tie.close
-    (tie.spec
-    Inv-loop
-    μ-loop
-    loop-holds
-    (λ c. search needs)
-    (λ c. search needs)
-    (λ c κs. search needs)
-    returns
-    (λ c. search needs)
-    (λ c. search needs)
-    loop-again
-    returns-2)
+    (tie.spec Inv-loop μ-loop loop-holds (λ c. search needs) (λ c. search needs) (λ c κs. search needs) returns (λ c. search needs) (λ c. search needs)
+    loop-again returns-2)

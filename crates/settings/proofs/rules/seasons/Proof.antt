@@ -5,12 +5,12 @@ use borrow.Author.Needs.{needs}
 use borrow.Author.Tests.{not-true, not-false}
 use lib.ListN.{getD}
 use Rattle.laws.proofs.Broken.{Kept, kept-none, kept-more, kept-broken, kept-all}
-use Rattle.settings.specs.Rules.{seasonGood, noSeason}
+use Rattle.settings.specs.Rules.{seasonGood, zeroSeason}
 use Rattle.settings.proofs.rules.seasons.Statement.{statement}
 use Rattle.settings.proofs.rules.seasons.Tie as tie
 
 abbrev Inv-loop : tie.InvT-loop
-Inv-loop xs i₀ i = Kept 8 (λ (j : ℕ). seasonGood (getD xs j noSeason)) i
+Inv-loop xs i₀ i = Kept 8 (λ (j : ℕ). seasonGood (getD xs j zeroSeason)) i
 
 abbrev μ-loop : tie.MeasureT-loop
 μ-loop xs i₀ i = 8 - i
@@ -30,15 +30,5 @@ returns-2 c = kept-all (c .before .loop .inv) (c .loop-test .left)
 pub seasons-spec : {M : Type 1} → statement M
 seasons-spec =
     tie.close
-    (tie.spec
-    Inv-loop
-    μ-loop
-    loop-holds
-    (λ c. search needs)
-    (λ c. search needs)
-    (λ c κs. search needs)
-    returns
-    (λ c. search needs)
-    (λ c. search needs)
-    loop-again
-    returns-2)
+    (tie.spec Inv-loop μ-loop loop-holds (λ c. search needs) (λ c. search needs) (λ c κs. search needs) returns (λ c. search needs) (λ c. search needs)
+    loop-again returns-2)

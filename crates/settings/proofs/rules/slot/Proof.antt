@@ -7,4 +7,4 @@ returns : tie.Need-returns
 returns c = rw (c .before .before .before .before .before .before .before .bit-at .ensures)
 
 pub slot-spec : {M : Type 1} → statement M
-slot-spec = tie.close (tie.spec (λ c κs. search needs) returns)
+slot-spec = tie.close (tie.spec (λ c. search needs) (λ c κs. search needs) returns)

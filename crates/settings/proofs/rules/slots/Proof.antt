@@ -6,12 +6,12 @@ use borrow.Author.Tests.{not-true, not-false}
 use lib.ListN.{getD}
 use Rattle.laws.proofs.Broken.{Kept, kept-none, kept-more, kept-broken, kept-all}
 use Rattle.laws.specs.Masks.{bitAt}
-use Rattle.settings.specs.Rules.{slotGood, noSlot}
+use Rattle.settings.specs.Rules.{slotGood, zeroSlot}
 use Rattle.settings.proofs.rules.slots.Statement.{statement}
 use Rattle.settings.proofs.rules.slots.Tie as tie
 
 abbrev Inv-loop : tie.InvT-loop
-Inv-loop fitted xs i₀ i = Kept 16 (λ (j : ℕ). slotGood (bitAt fitted) (getD xs j noSlot)) i
+Inv-loop fitted xs i₀ i = Kept 16 (λ (j : ℕ). slotGood (bitAt fitted) (getD xs j zeroSlot)) i
 
 abbrev μ-loop : tie.MeasureT-loop
 μ-loop fitted xs i₀ i = 16 - i
@@ -31,15 +31,5 @@ returns-2 c = kept-all (c .before .loop .inv) (c .loop-test .left)
 pub slots-spec : {M : Type 1} → statement M
 slots-spec =
     tie.close
-    (tie.spec
-    Inv-loop
-    μ-loop
-    loop-holds
-    (λ c. search needs)
-    (λ c. search needs)
-    (λ c κs. search needs)
-    returns
-    (λ c. search needs)
-    (λ c. search needs)
-    loop-again
-    returns-2)
+    (tie.spec Inv-loop μ-loop loop-holds (λ c. search needs) (λ c. search needs) (λ c κs. search needs) returns (λ c. search needs) (λ c. search needs)
+    loop-again returns-2)

@@ -5,12 +5,12 @@ use borrow.Author.Needs.{needs}
 use borrow.Author.Tests.{not-true, not-false}
 use lib.ListN.{getD}
 use Rattle.laws.proofs.Broken.{Kept, kept-none, kept-more, kept-broken, kept-all}
-use Rattle.settings.specs.Rules.{windowGood, noWindow}
+use Rattle.settings.specs.Rules.{windowGood, zeroWindow}
 use Rattle.settings.proofs.rules.windows.Statement.{statement}
 use Rattle.settings.proofs.rules.windows.Tie as tie
 
 abbrev Inv-loop : tie.InvT-loop
-Inv-loop xs i₀ i = Kept 128 (λ (j : ℕ). windowGood (getD xs j noWindow)) i
+Inv-loop xs i₀ i = Kept 128 (λ (j : ℕ). windowGood (getD xs j zeroWindow)) i
 
 abbrev μ-loop : tie.MeasureT-loop
 μ-loop xs i₀ i = 128 - i
@@ -30,15 +30,5 @@ returns-2 c = kept-all (c .before .loop .inv) (c .loop-test .left)
 pub windows-spec : {M : Type 1} → statement M
 windows-spec =
     tie.close
-    (tie.spec
-    Inv-loop
-    μ-loop
-    loop-holds
-    (λ c. search needs)
-    (λ c. search needs)
-    (λ c κs. search needs)
-    returns
-    (λ c. search needs)
-    (λ c. search needs)
-    loop-again
-    returns-2)
+    (tie.spec Inv-loop μ-loop loop-holds (λ c. search needs) (λ c. search needs) (λ c κs. search needs) returns (λ c. search needs) (λ c. search needs)
+    loop-again returns-2)

@@ -37,18 +37,5 @@ returns-3 c =
 pub daily-active-spec : {M : Type 1} → statement M
 daily-active-spec =
     tie.close
-    (tie.spec
-    Inv-windows
-    μ-windows
-    returns
-    windows-holds
-    (λ c. search needs)
-    (λ c. search needs)
-    (λ c. search needs)
-    (λ c. search needs)
-    (λ c κs. search needs)
-    (λ c. search needs)
-    (λ c. search needs)
-    windows-again
-    returns-2
-    returns-3)
+    (tie.spec Inv-windows μ-windows returns windows-holds (λ c. search needs) (λ c. search needs) (λ c. search needs) (λ c. search needs) (λ c κs. search needs)
+    (λ c. search needs) (λ c. search needs) windows-again returns-2 returns-3)

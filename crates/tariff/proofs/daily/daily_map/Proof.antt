@@ -67,28 +67,6 @@ returns c = mask-done 32 _ _ _ (c .before .rules .inv .1) (c .before .rules .inv
 pub daily-map-spec : {M : Type 1} → statement M
 daily-map-spec =
     tie.close
-    (tie.spec
-    Inv-loop
-    μ-loop
-    Inv-rules
-    μ-rules
-    rules-holds
-    loop-holds
-    (λ c. search needs)
-    (λ c. search needs)
-    (λ c. search needs)
-    (λ c. search needs)
-    (λ c κs. search needs)
-    (λ c. search needs)
-    (λ c. search needs)
-    add-map
-    (λ c. search needs)
-    (λ c. search needs)
-    rules-again
-    (λ c. search needs)
-    (λ c. search needs)
-    loop-again
-    (λ c. search needs)
-    (λ c. search needs)
-    rules-again-2
-    returns)
+    (tie.spec Inv-loop μ-loop Inv-rules μ-rules rules-holds loop-holds (λ c. search needs) (λ c. search needs) (λ c. search needs) (λ c. search needs)
+    (λ c κs. search needs) (λ c. search needs) (λ c. search needs) add-map (λ c. search needs) (λ c. search needs) rules-again (λ c. search needs)
+    (λ c. search needs) loop-again (λ c. search needs) (λ c. search needs) rules-again-2 returns)

@@ -15,4 +15,4 @@ unfolding bitAt
 returns-2 c = search needs
 
 pub bit-at-spec : {M : Type 1} → statement M
-bit-at-spec = tie.close (tie.spec returns (λ c. search needs) returns-2)
+bit-at-spec = tie.close (tie.spec returns (λ c. search needs) (λ c. search needs) returns-2)

@@ -21,8 +21,8 @@ loop-holds c = (search needs, mask-none _)
 loop-again : tie.Need-loop-again Inv-loop μ-loop
 loop-again c = (
   omega arith,
-  mask-more _ _ (omega arith) (c .before .before .before .before .before .before .loop .inv .1) (c .with-bit .ensures)
-      (applies-by-bits _ _ _ _ _ _ (c .before .before .bit-at .ensures) (c .before .bit-at2 .ensures)),
+  mask-more _ _ (omega arith) (c .before .before .before .before .before .before .before .before .loop .inv .1) (c .with-bit .ensures)
+      (applies-by-bits _ _ _ _ _ _ (c .before .before .before .bit-at .ensures) (c .before .bit-at2 .ensures)),
 )
 
 cast-result : tie.Need-cast-result Inv-loop μ-loop
@@ -36,21 +36,6 @@ returns c =
 pub force-map-spec : {M : Type 1} → statement M
 force-map-spec =
     tie.close
-    (tie.spec
-    Inv-loop
-    μ-loop
-    (λ c κs. search needs)
-    (λ c. search needs)
-    (λ c κs. search needs)
-    (λ c κs. search needs)
-    loop-holds
-    (λ c. search needs)
-    (λ c. search needs)
-    (λ c κs. search needs)
-    (λ c κs. search needs)
-    (λ c κs. search needs)
-    (λ c. search needs)
-    (λ c. search needs)
-    loop-again
-    cast-result
-    returns)
+    (tie.spec Inv-loop μ-loop (λ c κs. search needs) (λ c. search needs) (λ c κs. search needs) (λ c κs. search needs) loop-holds (λ c. search needs)
+    (λ c. search needs) (λ c. search needs) (λ c κs. search needs) (λ c. search needs) (λ c κs. search needs) (λ c κs. search needs) (λ c. search needs)
+    (λ c. search needs) loop-again cast-result returns)

@@ -3,33 +3,21 @@ use mathlib.Core.Path.{_≡_, refl, sym, ap, _∙_}
 use mathlib.Core.Bool.{Bool, true, false, not, _&&_, and-true, and-false}
 use mathlib.Core.List.{List}
 use Prim.Native.Nat.{ℕ, zero, suc, _-_, _*_, _/_, _%_, _^_, _<_}
-use native.Mathlib.Nat.{zero-min, min-zero, div-one, pow-suc, not-suc-le-zero, le-of-suc-le-suc}
-use native.Mathlib.Numerals.{one-add}
+use native.Mathlib.Nat.{zero-min, min-zero, pow-suc, not-suc-le-zero, le-of-suc-le-suc}
 use native.Mathlib.Omega.{arith}
 use lib.Bits.{bitAnd, and-step, and-self, and-le-r}
 use lib.Count.{trailingZeros}
 use lib.Dec.{eqb}
 use lib.ListN.{getD, set}
-use lib.Pow.{shr-shr}
 use borrow.Author.Tests.{eqb-true, eqb-false, eq-eqb, ne-eqb}
 use Rattle.laws.specs.If.{if_then_else_}
 use Rattle.laws.specs.Any.{any}
 use Rattle.laws.proofs.Any.{any-at, any-none}
 use Rattle.laws.specs.Masks.{bitAt}
-use Rattle.laws.proofs.Masks.{bit-zero}
+use Rattle.laws.proofs.Masks.{bit-zero, bit-half, bit-low}
 use Rattle.laws.specs.Tables.{table}
 use Rattle.laws.proofs.Tables.{table-at, table-cong}
 use Rattle.laws.proofs.Tests.{by-test}
-
--- bit i + 1 is bit i of the half
-bit-half : (x i : ℕ) → bitAt x (suc i) ≡ bitAt (x / 2) i
-unfolding bitAt
-bit-half x i = rw (← one-add i, ← shr-shr x 1 i)
-
--- bit 0 is the lowest digit
-bit-low : (x : ℕ) → bitAt x 0 ≡ eqb (x % 2) 1
-unfolding bitAt
-bit-low x = rw div-one
 
 -- two numbers are the same if the next ones are
 eqb-suc : (a b : ℕ) → eqb (suc a) (suc b) ≡ eqb a b

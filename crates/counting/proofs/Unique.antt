@@ -6,8 +6,7 @@ use Rattle.laws.specs.Unique.{OneResult, OneExit}
 use Rattle.counting.proofs.filter.advance.Reads as advance-reads
 use Rattle.counting.proofs.filter.kind_mask.Reads as kind-mask-reads
 use Rattle.counting.proofs.filter.running_lines.Reads as running-lines-reads
-use Rattle.counting.proofs.units.settle_line.Reads as settle-line-reads
-use Rattle.counting.proofs.units.settle_units.Reads as settle-units-reads
+use Rattle.counting.proofs.units.settle.Reads as settle-reads
 use Rattle.counting.proofs.bills.sums_units.Reads as sums-units-reads
 use Rattle.counting.proofs.bills.fed_registers.Reads as fed-registers-reads
 use Rattle.counting.proofs.bills.register_units.Reads as register-units-reads
@@ -26,11 +25,8 @@ kind-mask κs a x y e f p q = p ∙ sym q
 pub running-lines : OneResult running-lines-reads.Post
 running-lines κs a x y e f p q = p ∙ sym q
 
-pub settle-line : OneResult settle-line-reads.Post
-settle-line κs a x y e f p q = p ∙ sym q
-
-pub settle-units : OneResult settle-units-reads.Post
-settle-units κs a x y e f p q = p ∙ sym q
+pub settle : OneResult settle-reads.Post
+settle κs a x y e f p q = p ∙ sym q
 
 pub sums-units : OneResult sums-units-reads.Post
 sums-units κs a x y e f p q = p ∙ sym q

@@ -15,6 +15,7 @@ use Rattle.counting.specs.Units.{Credits, unitsOf, credited}
 use Rattle.counting.specs.Bills.{registerAt, billAt, unitAt, registerUnits, feeds, fillsUp, withAmount}
 use Rattle.counting.specs.declared.Line.{Line}
 use Rattle.counting.specs.declared.Bill.{Bill}
+use Rattle.counting.specs.declared.units.Settled.{Settled}
 
 -- the mask of the inputs of a kind
 unfoldable pub kindMask : List Input → ℕ → ℕ
@@ -41,6 +42,10 @@ settled input line =
 -- the units that it brings
 unfoldable pub settledUnits : Input → Line → ℕ
 settledUnits input line = if fits input (line .run) then unitsOf input (line .remainder) else 0
+
+-- both
+abbrev pub settledWith : Input → Line → Settled
+settledWith input line = record { line = settled input line; units = settledUnits input line }
 
 -- all lines with the runs of a mask ended, and the units that these bring
 unfoldable pub settledOf : List Input → List Line → ℕ → Credits

@@ -5,7 +5,13 @@ use crate::filter::one_more;
 use settings::Input;
 ghost use mathlib.Core.Path.{_≡_};
 ghost use Rattle.counting.specs.Units.{unitsOf, remainderOf, heldSum};
-ghost use Rattle.counting.specs.ByMask.{settled, settledUnits};
+ghost use Rattle.counting.specs.ByMask.{settledWith};
+
+// A line after its run, and the units of the impulse.
+pub struct Settled {
+    pub line: Line,
+    pub units: u32,
+}
 
 // The whole denominators in the remainder and the numerator. No image has a denominator of 0; one that had would bring no units.
 fn units_of(input: Input, remainder: u16) -> u32
@@ -39,32 +45,28 @@ fn held_sum(units: u32, more: u32) -> u32
     sum as u32
 }
 
-// A line on which a run ends: an accepted impulse brings units, any other run is counted as rejected.
-pub fn settle_line(input: Input, line: Line) -> Line
-    ensures { λ r. ⌜ r ≡ settled input line ⌝ }
+// A line on which a run ends, and the units that it brings: an accepted impulse brings units, any other run is counted as rejected.
+pub fn settle(input: Input, line: Line) -> Settled
+    ensures { λ r. ⌜ r ≡ settledWith input line ⌝ }
 {
     if accepts(input, line.run) {
-        return Line {
+        let units = units_of(input, line.remainder);
+        let next = Line {
             run: 0,
             rejected: line.rejected,
             remainder: remainder_of(input, line.remainder),
-            units: held_sum(line.units, units_of(input, line.remainder)),
+            units: held_sum(line.units, units),
         };
+        return Settled { line: next, units };
     }
-    Line {
+    let next = Line {
         run: 0,
         rejected: one_more(line.rejected),
         remainder: line.remainder,
         units: line.units,
+    };
+    Settled {
+        line: next,
+        units: 0,
     }
-}
-
-// The units that it brings.
-pub fn settle_units(input: Input, line: Line) -> u32
-    ensures { λ r. ⌜ r ≡ settledUnits input line ⌝ }
-{
-    if accepts(input, line.run) {
-        return units_of(input, line.remainder);
-    }
-    0
 }

@@ -28,8 +28,7 @@ use Rattle.image.proofs.read_then_write.Reads as image-read-then-write
 use Rattle.counting.proofs.filter.advance.Reads as counting-advance
 use Rattle.counting.proofs.filter.kind_mask.Reads as counting-kind-mask
 use Rattle.counting.proofs.filter.running_lines.Reads as counting-running-lines
-use Rattle.counting.proofs.units.settle_line.Reads as counting-settle-line
-use Rattle.counting.proofs.units.settle_units.Reads as counting-settle-units
+use Rattle.counting.proofs.units.settle.Reads as counting-settle
 use Rattle.counting.proofs.bills.sums_units.Reads as counting-sums-units
 use Rattle.counting.proofs.bills.fed_registers.Reads as counting-fed-registers
 use Rattle.counting.proofs.bills.register_units.Reads as counting-register-units
@@ -118,8 +117,7 @@ pub record Tight : Type 1 where
   pub counting-advance : Lent (λ κs e. now (e .0) ∷ []) counting-advance.Post counting-advance.Asked
   pub counting-kind-mask : Alone counting-kind-mask.Post counting-kind-mask.Asked
   pub counting-running-lines : Alone counting-running-lines.Post counting-running-lines.Asked
-  pub counting-settle-line : Alone counting-settle-line.Post counting-settle-line.Asked
-  pub counting-settle-units : Alone counting-settle-units.Post counting-settle-units.Asked
+  pub counting-settle : Alone counting-settle.Post counting-settle.Asked
   pub counting-sums-units : Alone counting-sums-units.Post counting-sums-units.Asked
   pub counting-fed-registers : Alone counting-fed-registers.Post counting-fed-registers.Asked
   pub counting-register-units : Alone counting-register-units.Post counting-register-units.Asked

@@ -14,8 +14,7 @@ use counting::bills::put_amounts;
 use counting::filter::advance;
 use counting::filter::kind_mask;
 use counting::filter::running_lines;
-use counting::units::settle_line;
-use counting::units::settle_units;
+use counting::units::settle;
 use settings::Config;
 ghost use mathlib.Core.Path.{_≡_};
 ghost use Prim.Native.Nat.{_+_, _-_, _≤_};
@@ -171,11 +170,12 @@ pub fn take(config: Config, start: State, bits: &[u16]) -> Lap
             while left > 0 {
                 let i = u16::trailing_zeros(left) as usize;
                 let line = lines[i];
-                let n = settle_units(inputs[i], line);
-                units[i] = n;
-                brought = brought | n;
+                let settled = settle(inputs[i], line);
+                let next = settled.line;
+                units[i] = settled.units;
+                brought = brought | settled.units;
                 old[i] = line;
-                lines[i] = settle_line(inputs[i], line);
+                lines[i] = next;
                 left = left & (left - 1);
             }
             tariffs = tariffs_at(config, clock, tariffs);

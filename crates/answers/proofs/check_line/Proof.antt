@@ -3,23 +3,13 @@ use borrow.Author.Needs.{needs}
 use Rattle.answers.proofs.check_line.Statement.{statement}
 use Rattle.answers.proofs.check_line.Tie as tie
 
-returns : tie.Need-returns
-returns c = rw (c .ok .ensures, ← c .before .before .before .check-image .ensures, c .before .enum-told .given .1)
-
-returns-2 : tie.Need-returns-2
-returns-2 c = rw (c .refused-at .ensures, ← c .before .before .before .check-image .ensures, c .before .enum-told2 .given .1)
-
-returns-3 : tie.Need-returns-3
-returns-3 c = rw (c .refused-at2 .ensures, ← c .before .before .before .check-image .ensures, c .before .enum-told3 .given .1)
-
-returns-4 : tie.Need-returns-4
-returns-4 c = rw (c .refused-at3 .ensures, ← c .before .before .before .check-image .ensures, c .before .enum-told4 .given .1)
-
-returns-5 : tie.Need-returns-5
-returns-5 c = rw (c .refused-at4 .ensures, ← c .before .before .before .before .check-image .ensures, c .before .before .offset .given .1)
-
 pub check-line-spec : {M : Type 1} → statement M
 check-line-spec =
     tie.close
     (tie.spec (λ c κs. search needs) (λ c. search needs) (λ c κs. search needs) (λ c. search needs) (λ c κs. search needs) (λ c. search needs)
-    (λ c κs. search needs) (λ c. search needs) (λ c κs. search needs) (λ c. search needs) (λ c κs. search needs) returns returns-2 returns-3 returns-4 returns-5)
+    (λ c κs. search needs) (λ c. search needs) (λ c κs. search needs) (λ c. search needs) (λ c κs. search needs)
+    (λ c. rw (c .ok .ensures, ← c .before .before .before .check-image .ensures, c .before .enum-told .given .1))
+    (λ c. rw (c .refused-at .ensures, ← c .before .before .before .check-image .ensures, c .before .enum-told2 .given .1))
+    (λ c. rw (c .refused-at2 .ensures, ← c .before .before .before .check-image .ensures, c .before .enum-told3 .given .1))
+    (λ c. rw (c .refused-at3 .ensures, ← c .before .before .before .check-image .ensures, c .before .enum-told4 .given .1))
+    (λ c. rw (c .refused-at4 .ensures, ← c .before .before .before .before .check-image .ensures, c .before .before .offset .given .1)))

@@ -3,20 +3,10 @@ use borrow.Author.Needs.{needs}
 use Rattle.answers.proofs.reading_line.Statement.{statement}
 use Rattle.answers.proofs.reading_line.Tie as tie
 
-returns : tie.Need-returns
-returns c = rw (c .ok .ensures, c .before .enum-told .given .1)
-
-returns-2 : tie.Need-returns-2
-returns-2 c = rw (c .refused .ensures, c .before .enum-told2 .given .1)
-
-returns-3 : tie.Need-returns-3
-returns-3 c = rw (c .refused2 .ensures, c .before .enum-told3 .given .1)
-
-returns-4 : tie.Need-returns-4
-returns-4 c = rw (c .refused3 .ensures, c .before .enum-told4 .given .1)
-
 pub reading-line-spec : {M : Type 1} → statement M
 reading-line-spec =
     tie.close
     (tie.spec (λ c. search needs) (λ c κs. search needs) (λ c. search needs) (λ c κs. search needs) (λ c. search needs) (λ c κs. search needs)
-    (λ c. search needs) (λ c κs. search needs) returns returns-2 returns-3 returns-4)
+    (λ c. search needs) (λ c κs. search needs) (λ c. rw (c .ok .ensures, c .before .enum-told .given .1))
+    (λ c. rw (c .refused .ensures, c .before .enum-told2 .given .1)) (λ c. rw (c .refused2 .ensures, c .before .enum-told3 .given .1))
+    (λ c. rw (c .refused3 .ensures, c .before .enum-told4 .given .1)))

@@ -23,22 +23,6 @@ array-copy-out-input : tie.Need-array-copy-out-input
 unfolding lookUp groups
 array-copy-out-input c = let h = c .before .before .pre in rw (c .before .match .keys4) at h
 
-returns : tie.Need-returns
-unfolding lookUp groups
-returns c = rw (c .before .match .keys1)
-
-returns-2 : tie.Need-returns-2
-unfolding lookUp groups
-returns-2 c = rw (c .before .before .before .match .keys2)
-
-returns-3 : tie.Need-returns-3
-unfolding lookUp groups
-returns-3 c = rw (c .before .before .before .match .keys3)
-
-returns-4 : tie.Need-returns-4
-unfolding lookUp groups
-returns-4 c = rw (c .before .before .before .match .keys4)
-
 returns-5 : tie.Need-returns-5
 unfolding groups
 returns-5 c =
@@ -48,7 +32,9 @@ returns-5 c =
     (inl (rest .0 .0 .0 .1), (inr refl, (inr refl, (inr refl, (inl (rest .0 .0 .1), (inl (rest .0 .1), (inl (rest .1), (inr refl, (inr refl, tt)))))))))
 
 pub is-fitted-spec : {M : Type 1} → statement M
+unfolding lookUp groups
 is-fitted-spec =
     tie.close
     (tie.spec (λ c. search needs) array-read-result (λ c. search needs) array-copy-out-slot (λ c. search needs) array-copy-out-bill (λ c. search needs)
-    array-copy-out-input returns returns-2 returns-3 returns-4 returns-5)
+    array-copy-out-input (λ c. rw (c .before .match .keys1)) (λ c. rw (c .before .before .before .match .keys2))
+    (λ c. rw (c .before .before .before .match .keys3)) (λ c. rw (c .before .before .before .match .keys4)) returns-5)

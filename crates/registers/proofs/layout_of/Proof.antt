@@ -8,34 +8,6 @@ use Rattle.registers.proofs.Groups.{none-found}
 use Rattle.registers.proofs.layout_of.Statement.{statement}
 use Rattle.registers.proofs.layout_of.Tie as tie
 
-returns : tie.Need-returns
-unfolding lookUp groups
-returns c = rw (c .match .keys1)
-
-returns-2 : tie.Need-returns-2
-unfolding lookUp groups
-returns-2 c = rw (c .match .keys2)
-
-returns-3 : tie.Need-returns-3
-unfolding lookUp groups
-returns-3 c = rw (c .match .keys3)
-
-returns-4 : tie.Need-returns-4
-unfolding lookUp groups
-returns-4 c = rw (c .match .keys4)
-
-returns-5 : tie.Need-returns-5
-unfolding lookUp groups
-returns-5 c = rw (c .match .keys5)
-
-returns-6 : tie.Need-returns-6
-unfolding lookUp groups
-returns-6 c = rw (c .match .keys6)
-
-returns-7 : tie.Need-returns-7
-unfolding lookUp groups
-returns-7 c = rw (c .match .keys7)
-
 returns-8 : tie.Need-returns-8
 unfolding lookUp groups
 returns-8 c =
@@ -56,4 +28,8 @@ returns-10 c =
     (rest .0 .0 .0 .0 .0 .0 .1, (rest .0 .0 .0 .0 .0 .1, (rest .0 .0 .0 .0 .1, (rest .0 .0 .0 .1, (λ e. omega arith, (λ e. omega arith, (rest .0 .0 .1, (rest .0 .1, (rest .1, tt))))))))))
 
 pub layout-of-spec : {M : Type 1} → statement M
-layout-of-spec = tie.close (tie.spec returns returns-2 returns-3 returns-4 returns-5 returns-6 returns-7 returns-8 returns-9 returns-10)
+unfolding lookUp groups
+layout-of-spec =
+    tie.close
+    (tie.spec (λ c. rw (c .match .keys1)) (λ c. rw (c .match .keys2)) (λ c. rw (c .match .keys3)) (λ c. rw (c .match .keys4)) (λ c. rw (c .match .keys5))
+    (λ c. rw (c .match .keys6)) (λ c. rw (c .match .keys7)) returns-8 returns-9 returns-10)

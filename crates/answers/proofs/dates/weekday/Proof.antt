@@ -21,38 +21,17 @@ six : (d : ℕ)
 six d r =
     past 5 d (past 4 d (past 3 d (past 2 d (past 1 d (past 0 d zero-le (r .0 .0 .0 .0 .0 .1)) (r .0 .0 .0 .0 .1)) (r .0 .0 .0 .1)) (r .0 .0 .1)) (r .0 .1)) (r .1)
 
-returns : tie.Need-returns
-unfolding letters withBytes weekdayName
-returns c = rw (c .with-bytes .ensures, c .before .before .blank .ensures, c .before .before .before .match .keys1)
-
-returns-2 : tie.Need-returns-2
-unfolding letters withBytes weekdayName
-returns-2 c = rw (c .with-bytes2 .ensures, c .before .before .blank2 .ensures, c .before .before .before .match .keys2)
-
-returns-3 : tie.Need-returns-3
-unfolding letters withBytes weekdayName
-returns-3 c = rw (c .with-bytes3 .ensures, c .before .before .blank3 .ensures, c .before .before .before .match .keys3)
-
-returns-4 : tie.Need-returns-4
-unfolding letters withBytes weekdayName
-returns-4 c = rw (c .with-bytes4 .ensures, c .before .before .blank4 .ensures, c .before .before .before .match .keys4)
-
-returns-5 : tie.Need-returns-5
-unfolding letters withBytes weekdayName
-returns-5 c = rw (c .with-bytes5 .ensures, c .before .before .blank5 .ensures, c .before .before .before .match .keys5)
-
-returns-6 : tie.Need-returns-6
-unfolding letters withBytes weekdayName
-returns-6 c = rw (c .with-bytes6 .ensures, c .before .before .blank6 .ensures, c .before .before .before .match .keys6)
-
-returns-7 : tie.Need-returns-7
-unfolding letters withBytes
-returns-7 c = rw (c .with-bytes7 .ensures, c .before .before .blank7 .ensures, sunday _ (six _ (c .before .before .before .match .rest)))
-
 pub weekday-spec : {M : Type 1} → statement M
+unfolding letters withBytes weekdayName
 weekday-spec =
     tie.close
     (tie.spec (λ c κs. search needs) (λ c. search needs) (λ c κs. search needs) (λ c κs. search needs) (λ c. search needs) (λ c κs. search needs)
     (λ c κs. search needs) (λ c. search needs) (λ c κs. search needs) (λ c κs. search needs) (λ c. search needs) (λ c κs. search needs) (λ c κs. search needs)
     (λ c. search needs) (λ c κs. search needs) (λ c κs. search needs) (λ c. search needs) (λ c κs. search needs) (λ c κs. search needs) (λ c. search needs)
-    (λ c κs. search needs) returns returns-2 returns-3 returns-4 returns-5 returns-6 returns-7)
+    (λ c κs. search needs) (λ c. rw (c .with-bytes .ensures, c .before .before .blank .ensures, c .before .before .before .match .keys1))
+    (λ c. rw (c .with-bytes2 .ensures, c .before .before .blank2 .ensures, c .before .before .before .match .keys2))
+    (λ c. rw (c .with-bytes3 .ensures, c .before .before .blank3 .ensures, c .before .before .before .match .keys3))
+    (λ c. rw (c .with-bytes4 .ensures, c .before .before .blank4 .ensures, c .before .before .before .match .keys4))
+    (λ c. rw (c .with-bytes5 .ensures, c .before .before .blank5 .ensures, c .before .before .before .match .keys5))
+    (λ c. rw (c .with-bytes6 .ensures, c .before .before .blank6 .ensures, c .before .before .before .match .keys6))
+    (λ c. rw (c .with-bytes7 .ensures, c .before .before .blank7 .ensures, sunday _ (six _ (c .before .before .before .match .rest)))))

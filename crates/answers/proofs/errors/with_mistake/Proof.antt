@@ -5,24 +5,11 @@ use borrow.Author.Needs.{needs}
 use Rattle.answers.proofs.errors.with_mistake.Statement.{statement}
 use Rattle.answers.proofs.errors.with_mistake.Tie as tie
 
-returns : tie.Need-returns
-unfolding letters mistakeText
-returns c = rw (c .with-bytes .ensures, c .before .before .enum-told .given .1)
-
-returns-2 : tie.Need-returns-2
-unfolding letters mistakeText
-returns-2 c = rw (c .with-bytes2 .ensures, c .before .before .enum-told2 .given .1)
-
-returns-3 : tie.Need-returns-3
-unfolding letters mistakeText
-returns-3 c = rw (c .with-words .ensures, c .before .before .mistake .given .1)
-
-returns-4 : tie.Need-returns-4
-unfolding letters mistakeText
-returns-4 c = rw (c .with-numbers .ensures, c .before .before .mistake2 .given .1)
-
 pub with-mistake-spec : {M : Type 1} → statement M
+unfolding letters mistakeText
 with-mistake-spec =
     tie.close
     (tie.spec (λ c. search needs) (λ c. search needs) (λ c κs. search needs) (λ c. search needs) (λ c. search needs) (λ c κs. search needs) (λ c. search needs)
-    (λ c κs. search needs) (λ c. search needs) (λ c κs. search needs) returns returns-2 returns-3 returns-4)
+    (λ c κs. search needs) (λ c. search needs) (λ c κs. search needs) (λ c. rw (c .with-bytes .ensures, c .before .before .enum-told .given .1))
+    (λ c. rw (c .with-bytes2 .ensures, c .before .before .enum-told2 .given .1)) (λ c. rw (c .with-words .ensures, c .before .before .mistake .given .1))
+    (λ c. rw (c .with-numbers .ensures, c .before .before .mistake2 .given .1)))

@@ -38,42 +38,6 @@ slot-requires : tie.Need-slot-requires
 unfolding lookUp groups
 slot-requires c κs = let h = c .before .before .before .before .pre in rw (c .match .keys5) at h
 
-returns : tie.Need-returns
-unfolding lookUp groups
-returns c = c .meter .ensures ∙ rw (c .before .match .keys1)
-
-returns-2 : tie.Need-returns-2
-unfolding lookUp groups
-returns-2 c = c .tariff-map .ensures ∙ rw (c .before .match .keys2)
-
-returns-3 : tie.Need-returns-3
-unfolding lookUp groups
-returns-3 c = c .daily .ensures ∙ rw (c .before .match .keys3)
-
-returns-4 : tie.Need-returns-4
-unfolding lookUp groups
-returns-4 c = c .weekly .ensures ∙ rw (c .before .match .keys4)
-
-returns-5 : tie.Need-returns-5
-unfolding lookUp groups
-returns-5 c = c .slot .ensures ∙ rw (c .before .match .keys5)
-
-returns-6 : tie.Need-returns-6
-unfolding lookUp groups
-returns-6 c = c .bill .ensures ∙ rw (c .before .before .before .match .keys6)
-
-returns-7 : tie.Need-returns-7
-unfolding lookUp groups
-returns-7 c = c .input .ensures ∙ rw (c .before .before .before .match .keys7)
-
-returns-8 : tie.Need-returns-8
-unfolding lookUp groups
-returns-8 c = c .fleet-bytes .ensures ∙ rw (c .before .fleet-of .ensures, c .before .before .match .keys8)
-
-returns-9 : tie.Need-returns-9
-unfolding lookUp groups
-returns-9 c = c .clock-bytes .ensures ∙ rw (c .before .match .keys9)
-
 returns-10 : tie.Need-returns-10
 unfolding groups
 returns-10 c =
@@ -82,8 +46,14 @@ returns-10 c =
     (rest .0 .0 .0 .0 .0 .0 .0 .0 .1, (rest .0 .0 .0 .0 .0 .0 .0 .1, (rest .0 .0 .0 .0 .0 .0 .1, (rest .0 .0 .0 .0 .0 .1, (rest .0 .0 .0 .0 .1, (rest .0 .0 .0 .1, (rest .0 .0 .1, (rest .0 .1, (rest .1, tt))))))))))
 
 pub contents-spec : {M : Type 1} → statement M
+unfolding lookUp groups
 contents-spec =
     tie.close
     (tie.spec meter-requires (λ c κs. search needs) cast-daily (λ c κs. search needs) cast-weekly (λ c κs. search needs) slot-requires (λ c. search needs)
     array-copy-out-b (λ c κs. search needs) (λ c. search needs) array-copy-out-line (λ c κs. search needs) (λ c κs. search needs) (λ c κs. search needs)
-    (λ c κs. search needs) returns returns-2 returns-3 returns-4 returns-5 returns-6 returns-7 returns-8 returns-9 returns-10)
+    (λ c κs. search needs) (λ c. c .meter .ensures ∙ rw (c .before .match .keys1)) (λ c. c .tariff-map .ensures ∙ rw (c .before .match .keys2))
+    (λ c. c .daily .ensures ∙ rw (c .before .match .keys3)) (λ c. c .weekly .ensures ∙ rw (c .before .match .keys4))
+    (λ c. c .slot .ensures ∙ rw (c .before .match .keys5)) (λ c. c .bill .ensures ∙ rw (c .before .before .before .match .keys6))
+    (λ c. c .input .ensures ∙ rw (c .before .before .before .match .keys7))
+    (λ c. c .fleet-bytes .ensures ∙ rw (c .before .fleet-of .ensures, c .before .before .match .keys8))
+    (λ c. c .clock-bytes .ensures ∙ rw (c .before .match .keys9)) returns-10)

@@ -1,5 +1,5 @@
 -- `sampling::samples::take` meets its contract. The loop's invariant: what is left to take from the state put together of its parts, counted on from k, is the whole run.
-use mathlib.Core.Path.{_≡_, refl, sym, _∙_}
+use mathlib.Core.Path.{_≡_, refl, sym, ap, _∙_}
 use mathlib.Core.Bool.{true, false, true≢false}
 use mathlib.Core.Logic.{⊎-elim}
 use mathlib.Core.List.{List}
@@ -19,6 +19,7 @@ use Rattle.counting.specs.Filter.{inputAt, lineAt, nextRun}
 use Rattle.counting.specs.Bills.{unitAt}
 use Rattle.counting.specs.ByMask.{runningLines, withRun, advancedLines, settled, settledUnits, settledOf, withAmounts}
 use Rattle.counting.specs.declared.Line.{Line}
+use Rattle.counting.specs.declared.units.Settled.{Settled}
 use Rattle.sampling.specs.Samples.{activeLines, putIn, sampleNumber}
 use Rattle.sampling.specs.Laps.{lapOf}
 use Rattle.sampling.specs.Kept.{InForce}
@@ -119,8 +120,9 @@ loop2-again c =
     let h = c .before .before .before .before .before .before .loop2 .inv in
     let p = c .before .before .before .before .before .loop2-test .taken in
     let n = half-next _ _ _ p (h .0) (h .2) in
+    let settled = c .before .before .settle in
     let sixteen : length (c .before .before .before .before .before .before .loop2 .units) ≡ 16 = rw (h .3 .list) (length-table 16 _) in
-    (omega (arith, drop-less _ p), trailing-le 16 _, half-turn _ _ _ p (h .0) (h .2) (c .settle-line .ensures ∙ rw n), half-turn _ _ _ p (h .0) (h .3) (c .before .before .settle-units .ensures ∙ rw n), half-turn _ _ _ p (h .0) (h .4) (n blank), λ e. let both = or-none _ _ e in still-none (c .before .before .before .before .before .before .loop2 .units) (trailingZeros 16 (c .before .before .before .before .before .before .loop2 .left)) (c .before .before .settle-units .result) (omega (arith, lowest-below 16 _ p (h .0))) (both .1) (h .5 (both .0)))
+    (omega (arith, drop-less _ p), trailing-le 16 _, half-turn _ _ _ p (h .0) (h .2) (ap (λ (r : Settled). r .line) (settled .ensures) ∙ rw n), half-turn _ _ _ p (h .0) (h .3) (ap (λ (r : Settled). r .units) (settled .ensures) ∙ rw n), half-turn _ _ _ p (h .0) (h .4) (n blank), λ e. let both = or-none _ _ e in still-none (c .before .before .before .before .before .before .loop2 .units) (trailingZeros 16 (c .before .before .before .before .before .before .loop2 .left)) (settled .result .units) (omega (arith, lowest-below 16 _ p (h .0))) (both .1) (h .5 (both .0)))
 
 -- after the inner loop all of them are
 settles : (c : tie.After-loop2 Inv-loop2 μ-loop2 Inv-loop3 μ-loop3 Inv-loop μ-loop) → c .before .loop2 .lines ≡ settledOf (c .before .before .before .before .before .before .before .before .before .before .before .before .before .before .before .before .args .config .inputs) (c .before .before .before .before .before .before .before .loop .lines) (ends-now (c .before .before .before)) .lines
@@ -250,8 +252,7 @@ take-spec =
     (λ c. search (needs, c .before .idle-samples .ensures .1)) (λ c. omega (arith, c .if2 .taken, c .before .idle-samples .ensures .1)) loop-again
     (λ c. search needs) (λ c. search needs) loop2-holds (λ c. search needs) (λ c. search needs) (λ c. search (needs, lowest-below)) (λ c. search needs)
     (λ c. search (needs, lowest-below)) (λ c κs. search needs) (λ c. search needs) (λ c. search (needs, lowest-below)) (λ c. search needs)
-    (λ c. search (needs, lowest-below)) (λ c. search needs) (λ c. search (needs, lowest-below)) (λ c κs. search needs) (λ c. search needs)
-    (λ c. search (needs, lowest-below)) (λ c. search needs) (λ c. drop-less _ (c .before .before .before .before .before .loop2-test .taken)) loop2-again
+    (λ c. search (needs, lowest-below)) (λ c. search needs) (λ c. search (needs, lowest-below)) (λ c. search needs) (λ c. drop-less _ (c .before .before .before .before .before .loop2-test .taken)) loop2-again
     tariffs-at-requires book-requires (λ c κs. search needs) loop3-holds (λ c. search needs) (λ c. search needs) (λ c. search (needs, lowest-below))
     (λ c κs. search needs) (λ c. search needs) (λ c. search (needs, lowest-below)) (λ c. search needs)
     (λ c. drop-less _ (c .before .before .before .loop3-test .taken)) loop3-again (λ c. search needs) (λ c. search needs) (λ c. search needs) loop-again-2

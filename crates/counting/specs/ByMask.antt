@@ -43,7 +43,7 @@ settled input line =
 unfoldable pub settledUnits : Input → Line → ℕ
 settledUnits input line = if fits input (line .run) then unitsOf input (line .remainder) else 0
 
--- both
+-- the line on which a run ends, and the units that it brings
 abbrev pub settledWith : Input → Line → Settled
 settledWith input line = record { line = settled input line; units = settledUnits input line }
 

@@ -5,7 +5,7 @@
 #include <stdlib.h>
 #include <string.h>
 
-enum { SAMPLES = 1000 };
+enum { SAMPLES = 1000, FEW = 10, CLOSINGS = 1000, PLACES = LONGEST_PROFILE / RECORD_LENGTH };
 
 /* Tuesday 01.04.1997, 00:00. */
 static const uint32_t start_time = 859852800;
@@ -14,14 +14,23 @@ static uint8_t input[IMAGE_LENGTH + 2 * SAMPLES];
 static const uint8_t *const image = input;
 static uint16_t bits[SAMPLES];
 
+/* The load profile of every job: the longest buffer, of zeros at its start, and the first eight slots. */
+static uint8_t profile[LONGEST_PROFILE];
+static const struct lent lent = {profile, sizeof profile};
+static const uint8_t slots[CHOSEN] = {0, 1, 2, 3, 4, 5, 6, 7};
+
 static const struct {
     uint32_t group, registers;
 } groups[] = {{82, 32}, {89, 1}, {90, 32}, {91, 16}, {201, 16}, {202, 16}, {203, 16}, {204, 1}, {206, 1}};
 
 static uint32_t mixed(uint32_t sum, uint32_t number) { return sum * 31 + number; }
 
+/* Seconds from the whole range of the clock, far from one another. */
+static uint32_t spread(uint32_t i) { return i * 2654435761u; }
+
 static void start(struct recorder *r) {
-    peer_start(r, image, IMAGE_LENGTH, start_time);
+    memset(profile, 0, sizeof profile);
+    peer_start(r, lent.length, slots, image, IMAGE_LENGTH, start_time);
     for (int i = 0; i < METERS; i++) peer_reading(r, (uint32_t)i, i % 2 == 0 ? i : ~i, (uint32_t)i % 8, (uint32_t)i);
 }
 
@@ -41,7 +50,7 @@ static void samples(uint32_t rounds) {
     start(&r);
     for (uint32_t i = 0; i < rounds; i++) {
         size_t taken;
-        sum = mixed(sum, peer_samples(&r, bits, SAMPLES, &taken));
+        sum = mixed(sum, peer_samples(&r, lent, bits, SAMPLES, &taken));
     }
     printf("%u\n", sum);
     write_registers(&r);
@@ -55,7 +64,7 @@ static void singles(uint32_t rounds) {
     for (uint32_t i = 0; i < rounds; i++)
         for (size_t k = 0; k < SAMPLES; k++) {
             size_t taken;
-            sum = mixed(sum, peer_samples(&r, bits + k, 1, &taken));
+            sum = mixed(sum, peer_samples(&r, lent, bits + k, 1, &taken));
         }
     printf("%u\n", sum);
     write_registers(&r);
@@ -108,7 +117,7 @@ static void reads(uint32_t rounds) {
     uint32_t sum = 0;
     size_t taken;
     start(&r);
-    peer_samples(&r, bits, SAMPLES, &taken);
+    peer_samples(&r, lent, bits, SAMPLES, &taken);
     peer_reset(&r);
     for (uint32_t i = 0; i < rounds; i++) sum = mixed(sum, read_groups(&r, i));
     printf("%u\n", sum);
@@ -117,9 +126,44 @@ static void reads(uint32_t rounds) {
 static void moments(uint32_t rounds) {
     uint32_t sum = 0;
     for (uint32_t i = 0; i < rounds; i++) {
-        uint64_t number = peer_calendar(i * 2654435761u);
+        uint64_t number = peer_calendar(spread(i));
         sum = mixed(mixed(sum, (uint32_t)number), (uint32_t)(number >> 32));
     }
+    printf("%u\n", sum);
+}
+
+/* More closed periods than there are places for, each with the units of its own samples. */
+static void fill(struct recorder *r) {
+    start(r);
+    for (uint32_t i = 0; i < CLOSINGS; i++) {
+        size_t taken;
+        peer_samples(r, lent, bits + FEW * (i % (SAMPLES / FEW)), FEW, &taken);
+        peer_set_clock(r, lent, spread(i));
+    }
+}
+
+/* A clock set closes a period. The check sum is of the refusals, and then of the whole buffer. */
+static void closings(uint32_t rounds) {
+    static struct recorder r;
+    uint32_t sum = 0;
+    fill(&r);
+    for (uint32_t i = 0; i < rounds; i++) sum = mixed(sum, peer_set_clock(&r, lent, spread(i)));
+    for (size_t k = 0; k < sizeof profile; k++) sum = mixed(sum, profile[k]);
+    printf("%u\n", sum);
+}
+
+/* How many bytes were given, or the refusal, and one of the bytes, another in each round: so all of them have to be there. */
+static uint32_t read_record(const struct recorder *r, uint32_t i) {
+    uint8_t bytes[RECORD_LENGTH] = {0};
+    int answer = peer_record(r, lent, i % PLACES, bytes, sizeof bytes);
+    return mixed((uint32_t)(answer < 0 ? -answer : answer), bytes[i % RECORD_LENGTH]);
+}
+
+static void records(uint32_t rounds) {
+    static struct recorder r;
+    uint32_t sum = 0;
+    fill(&r);
+    for (uint32_t i = 0; i < rounds; i++) sum = mixed(sum, read_record(&r, i));
     printf("%u\n", sum);
 }
 
@@ -135,6 +179,8 @@ int main(int argc, char **argv) {
         case 'i': images(rounds); break;
         case 'r': reads(rounds); break;
         case 'c': moments(rounds); break;
+        case 'p': closings(rounds); break;
+        case 'l': records(rounds); break;
         }
     }
     return 0;

@@ -1,14 +1,5 @@
 # Shows the end of a day as a person likes to read it. The files are the configuration's source text, the calls and the answers; a call and its answer go
-# together by their order.
-
-# The number of the four bytes at a place, the least significant first.
-function number(hex, at, k, n) {
-  n = 0
-  for (k = 3; k >= 0; k--) n = 256 * n + 16 * (index(digits, substr(hex, 2 * (at + k) + 1, 1)) - 1) + index(digits, substr(hex, 2 * (at + k) + 2, 1)) - 1
-  return n
-}
-
-BEGIN { digits = "0123456789abcdef" }
+# together by their order. bytes.awk has `number`.
 FILENAME == ARGV[1] {
   if ($1 == "maker") maker[++makers] = $2
   if ($1 == "tariff") column[++columns] = $2
@@ -23,7 +14,7 @@ FILENAME == ARGV[2] {
   split(call[++answers], word, " ")
   if (word[1] == "date") moment = $0
   if (word[1] == "fleet") fleet = $0
-  if (word[1] == "register" && word[2] == 202) amount[bill_maker[word[3]], bill_column[word[3]]] = $0 ~ /^refused/ ? $0 : number($0, 1)
+  if (word[1] == "register" && word[2] == 202) amount[bill_maker[word[3]], bill_column[word[3]]] = $0 ~ /^refused/ ? $0 : number($0, 1, 4)
 }
 END {
   column[++columns] = "all"

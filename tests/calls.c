@@ -3,14 +3,15 @@
        calls SEED COUNT IMAGE > CALLS
 
    It writes the image to the file IMAGE and about COUNT calls to standard output. Odd seeds have a damaged image and few calls; even ones a good image. Among
-   these, some first fill a bill register, a rejected count or a long period, by calls of their own: a run needs two lines at least, so thousands of them. */
+   these, some first fill a bill register, a rejected count, a long period or a long load profile, by calls of their own: a run needs two lines at least, so thousands
+   of them. */
 #include <stdarg.h>
 #include <stdint.h>
 #include <stdio.h>
 #include <stdlib.h>
 #include <string.h>
 
-enum { INPUTS = 16, SUMS = 8, SLOTS = 16, METERS = 32, SEASONS = 8, HOLIDAYS = 32, RULES = 16, BILLS = 16, IMAGE = 1126, LONGER = 3000 };
+enum { INPUTS = 16, SUMS = 8, SLOTS = 16, METERS = 32, SEASONS = 8, HOLIDAYS = 32, RULES = 16, BILLS = 16, IMAGE = 1126, LONGER = 3000, RECORD = 69, CHOSEN = 8 };
 
 #define LAST_SECOND 4294967295u
 #define MOST_OPEN 999999999u
@@ -358,14 +359,20 @@ static void line(const char *format, ...) {
   put_line(text, length);
 }
 
-/* The clock as far as it can be told without the answers. */
+/* The clock and the records of the load profile, as far as they can be told without the answers. */
 static uint32_t clock_now;
 static unsigned samples_now;
+static uint32_t places; /* for records, by the length at the start */
+static uint64_t closed; /* periods since the start */
+
+static uint32_t held(void) { return closed < places ? (uint32_t)closed : places; }
 
 static void pass(uint32_t n) {
   uint64_t all = samples_now + (uint64_t)n, time = clock_now + all / 100;
+  uint32_t before = clock_now / period_seconds();
   clock_now = time > LAST_SECOND ? LAST_SECOND : (uint32_t)time;
   samples_now = all % 100;
+  closed += clock_now / period_seconds() - before;
 }
 
 static void samples(unsigned bits, uint32_t n) {
@@ -382,21 +389,84 @@ static void impulse(unsigned mask) {
   pass(2);
 }
 
-static void set(uint32_t time) {
-  line("set %u", time);
+static void set_to(uint32_t time) {
   clock_now = time;
   samples_now = 0;
+  closed++;
+}
+
+static void set(uint32_t time) {
+  line("set %u", time);
+  set_to(time);
 }
 
 /* A start, or a set, that is never damaged, since what follows hangs on it. */
 static void surely(const char *command, uint32_t time) {
   char text[40];
   put_line(text, (size_t)sprintf(text, "%s %u", command, time));
-  clock_now = time;
-  samples_now = 0;
+  set_to(time);
 }
 
-static void start(uint32_t time) { surely("start", time); }
+/* What is lent for the load profile, and whether the next start is refused for it or for its slots. */
+static uint32_t lent = 65536;
+static int spoiled;
+
+static void start(uint32_t time) {
+  surely("start", time);
+  closed = 0;
+  places = spoiled ? 0 : lent / RECORD;
+}
+
+/* The eight chosen slots: any, one of them again and again, or the first eight; wrong ones have one above 15 at least. */
+static const char *some_slots(int wrong) {
+  static const unsigned far[] = {16, 17, 31, 32, 128, 240, 255};
+  static char text[50];
+  unsigned kind = below(4), same = below(SLOTS), at = below(CHOSEN);
+  char *end = text;
+  for (unsigned i = 0; i < CHOSEN; i++) {
+    unsigned slot = kind == 0 ? same : kind == 1 ? i : below(SLOTS);
+    if (wrong && (i == at || percent(10))) slot = PICK(far);
+    end += sprintf(end, " %u", slot);
+  }
+  return text;
+}
+
+static int legal(uint32_t length) { return length >= RECORD && length <= 65536; }
+
+/* Never damaged: else nothing after it would be taken. */
+static void lend(uint32_t length, int wrong) {
+  char text[80];
+  put_line(text, (size_t)sprintf(text, "profile %u%s", length, some_slots(wrong)));
+  lent = length;
+  spoiled = wrong || !legal(length);
+}
+
+/* Most are short, so that they are soon used up. */
+static uint32_t good_length(void) {
+  static const uint32_t edges[] = {69, 70, 137, 138, 139, 206, 207, 208, 65480, 65481, 65535, 65536};
+  switch (below(6)) {
+  case 0: return PICK(edges);
+  case 1: return RECORD * from_to(2, 10) + below(3) - 1;
+  default: return from_to(69, 700);
+  }
+}
+
+static uint32_t bad_length(void) {
+  static const uint32_t edges[] = {0, 0, 0, 1, 68, 68, 65537, 65538, 65536 + 69, 131072, LAST_SECOND - 1, LAST_SECOND};
+  return percent(80) ? PICK(edges) : percent(50) ? below(RECORD) : from_to(65537, LAST_SECOND);
+}
+
+/* Another length than that at the start, often the next, and sometimes the same. */
+static uint32_t other_length(uint32_t than) {
+  switch (below(8)) {
+  case 0: return than - 1;
+  case 1: return than + 1;
+  case 2: return percent(50) ? than - RECORD : than + RECORD;
+  case 3: return than;
+  case 4: case 5: return bad_length();
+  default: return good_length();
+  }
+}
 
 /* Times: the edges of the clock, periods, days, seasons, holidays and windows. */
 
@@ -495,6 +565,33 @@ static void show_tariffs(void) {
   show(WEEKLY, below(4));
 }
 
+/* Records of the load profile. */
+
+static void record_of(uint32_t index) {
+  static const uint32_t rooms[] = {0, 1, 68, 68, 69, 70, 255, 65536, LAST_SECOND};
+  if (percent(15)) line("record %u %u", index, PICK(rooms));
+  else line("record %u", index);
+}
+
+/* All of them and the first index past them; of many the oldest and the newest. */
+static void read_records(void) {
+  uint32_t n = held();
+  for (uint32_t i = 0; i <= n; i++)
+    if (i < 6 || n - i < 6) record_of(i);
+}
+
+static void record_call(void) {
+  static const uint32_t far[] = {1, 9, 10, 11, 947, 948, 949, 950, 65535, 65536, 2147483648u, LAST_SECOND};
+  switch (below(8)) {
+  case 0: record_of(0); break;
+  case 1: record_of(held() + below(3) - 1); break;
+  case 2: record_of(places + below(3) - 1); break;
+  case 3: record_of(PICK(far)); break;
+  case 4: record_of(below(held() + 1)); break;
+  default: read_records(); break;
+  }
+}
+
 /* Calls of one kind each. */
 
 static unsigned some_mask(void) {
@@ -556,6 +653,7 @@ static void edge_call(void) {
   show(LEVEL9, 2);
   if (percent(50)) samples(quiet(), from_to(1, 4));
   show(LEVEL9, 2);
+  if (percent(20)) record_of(held() - 1);
   if (percent(30)) register_of(CLOCK, 0);
 }
 
@@ -569,8 +667,9 @@ static void period_call(void) {
   run_call();
   samples(quiet(), from_to(1, 120));
   show(LEVEL9, 4);
-  if (percent(40)) samples(quiet(), period * 100);
+  if (percent(40)) samples(quiet(), period * 100 * (period > 300 ? 1 : from_to(1, 4)));
   show(LEVEL9, 2);
+  read_records();
 }
 
 static int some_value(void) {
@@ -622,6 +721,41 @@ static void set_call(void) {
   set(some_time());
   if (percent(70)) show_tariffs();
   if (percent(30)) show(LEVEL9, 2);
+  if (percent(10)) read_records();
+}
+
+/* A call that lends the buffer, with a length that is not the one at the start: the recorder stays as it is. */
+static void lent_call(void) {
+  switch (below(5)) {
+  case 0: line("sample %u", some_bits()); break;
+  case 1: line("sample %u %u", some_bits(), below(3) * below(700)); break;
+  case 2: line("set %u", some_time()); break;
+  case 3: record_of(below(held() + 2)); break;
+  default: register_of(CLOCK, 0); break;
+  }
+}
+
+/* Other lengths in the middle of the calls, other slots too, and back again. */
+static void lent_calls(void) {
+  uint32_t back = lent;
+  for (unsigned i = from_to(1, 2); i > 0; i--) {
+    line("profile %u%s", other_length(back), some_slots(percent(20)));
+    for (unsigned k = below(4); k > 0; k--) lent_call();
+  }
+  lend(back, percent(20));
+  if (percent(50)) read_records();
+}
+
+/* A start, most often with a length and slots of its own, and some after one that is refused. */
+static void begin(uint32_t time) {
+  if (percent(15)) {
+    lend(percent(60) ? bad_length() : good_length(), percent(60));
+    start(time);
+    register_of(CLOCK, 0);
+    for (unsigned k = from_to(1, 4); k > 0; k--) lent_call();
+  }
+  if (spoiled || percent(80)) lend(good_length(), 0);
+  start(time);
 }
 
 /* Lines that are wrong, blank, or long, and lines with a carriage return at the end. */
@@ -635,14 +769,20 @@ static void wrong_line(void) {
     "reading 0 -2147483649 0 0", "reading 0 - 0 0", "reading 0 --1 0 0", "reading 0 +1 0 0", "reading 0 1 256 0", "reading 0 1 0 256", "reading -0 1 0 0",
     "reading 0 1 -0 0", "reading 0 1 0 -0", "reading 0 18446744073709551616 0 0", "register 4294967296 0", "register 82 -0", "register 82 0 -1",
     "register 82 0 4294967296", "register 82 4294967296", "register x 0", "date 1e3", "date 18446744073709551617", "register 82 18446744073709551616",
-    "sample 18446744073709551617\r", "reading 256 2147483648 256 256", "start x y\r", "sample 65536 4294967296"};
+    "sample 18446744073709551617\r", "reading 256 2147483648 256 256", "start x y\r", "sample 65536 4294967296", "profile", "record", "profile ", "record ", "record  0",
+    "profile 138", "profile 138 0 1 2 3 4 5 6", "profile 138 0 1 2 3 4 5 6 7 8", "profile 138 0 1 2 3 4 5 6 ", "profile 138 0 1 2 3 4 5 6 7 ", "profiles 138 0 1 2 3 4 5 6 7",
+    "records 0", "record 0 69 0", "record 0 ", "record -1", "record +0", "record x", "record 4294967296", "record 0 4294967296", "record 0 -0", "record x x",
+    "record 18446744073709551616", "profile x 0 1 2 3 4 5 6 7", "profile 4294967296 0 1 2 3 4 5 6 7", "profile -1 0 1 2 3 4 5 6 7", "profile 138 256 1 2 3 4 5 6 7",
+    "profile 138 0 256 2 3 4 5 6 7", "profile 138 0 1 -2 3 4 5 6 7", "profile 138 0 1 2 x 4 5 6 7", "profile 138 0 1 2 3 256 5 6 7", "profile 138 0 1 2 3 4 +5 6 7",
+    "profile 138 0 1 2 3 4 5 4294967296 7", "profile 138 0 1 2 3 4 5 6 256", "profile 138 0 1  3 4 5 6 7", "profile 138 256 256 256 256 256 256 256 256",
+    "profile 18446744073709551616 256 1 2 3 4 5 6 7", "profile 138 0 1 2 3 4 256 6 256\r"};
   const char *text = PICK(lines);
   put_line(text, strlen(text));
 }
 
 /* A line filled up by zeros before its number, or by more of a comment, to about 255 bytes, and far longer ones. Some end with a carriage return. */
 static void long_line(void) {
-  static const char *const fronts[] = {"date ", "set ", "#", "register 89 ", "reading 0 -", "sample 0 ", "x", "start "};
+  static const char *const fronts[] = {"date ", "set ", "#", "register 89 ", "reading 0 -", "sample 0 ", "x", "start ", "record ", "record 0 ", "profile "};
   static char text[80000];
   size_t length = percent(90) ? from_to(253, 258) : percent(80) ? from_to(259, 600) : from_to(60000, 79999);
   const char *front = PICK(fronts);
@@ -663,14 +803,21 @@ static void byte_line(void) {
   put_line(text, length);
 }
 
+/* Zeros in front of its numbers. It may come to be damaged, so the length is lent again. */
+static void padded_profile(void) {
+  line("profile 0000%u 00 01 002 3 4 5 6 0000000000000000000007", lent);
+  lend(lent, 0);
+}
+
 static void odd_line(void) {
-  switch (below(12)) {
+  switch (below(13)) {
   case 0: put_line("", 0); break;
   case 1: put_line("# a comment", percent(50) ? 11 : 1); break;
   case 2: long_line(); break;
   case 3: byte_line(); break;
   case 4: line("reading %u -0 000 %03u", below(METERS), below(32)); break;
   case 5: line("register 00000000000000000000%u 0", groups[below(9)]); break;
+  case 6: if (percent(30)) padded_profile(); else line("record 00000%u 00%u", below(held() + 1), from_to(68, 70)); break;
   default: wrong_line(); break;
   }
 }
@@ -687,12 +834,14 @@ static void some_call(void) {
   else if (n < 630) age_call();
   else if (n < 635) end_call();
   else if (n < 655) { line("reset"); show(BILL, below(4)); }
-  else if (n < 885) register_call();
+  else if (n < 850) register_call();
+  else if (n < 875) record_call();
+  else if (n < 885) lent_calls();
   else if (n < 893) line("image");
   else if (n < 930) line("date %u", percent(70) ? some_time() : any32());
   else if (n < 950) line("fleet");
   else if (n < 998) odd_line();
-  else start(some_time());
+  else begin(some_time());
 }
 
 static void some_calls(unsigned long until) {
@@ -796,7 +945,7 @@ static void top_call(void) {
 static void full_calls(unsigned long until) {
   static const uint32_t below_top[] = {0, 0, 1, 40, 15000, 15000};
   unsigned long third = until / 3;
-  start(day_time(1, 1, from_to(1970, 2100)));
+  begin(day_time(1, 1, from_to(1970, 2100)));
   fill(MOST_OPEN - PICK(below_top));
   few_units();
   show(BILL, 6);
@@ -815,7 +964,7 @@ static void held_image(void) {
 }
 
 static void held_calls(unsigned long until) {
-  start(any32() / 2);
+  begin(any32() / 2);
   for (unsigned i = 0; i < 65540; i++) {
     impulse(65535);
     if (i >= 65533) register_of(INPUT_REGISTER, below(INPUTS));
@@ -835,10 +984,25 @@ static void long_image(void) {
 }
 
 static void long_calls(unsigned long until) {
-  start(any32() / 2 / 3600 * 3600);
+  begin(any32() / 2 / 3600 * 3600);
   for (unsigned i = 0; i < 27500; i++) impulse(65535);
   samples(quiet(), 360000 - 55000);
   for (unsigned i = 0; i < SLOTS; i++) register_of(LEVEL9, i);
+  read_records();
+  some_calls(calls + until);
+}
+
+/* A long load profile, used up and gone on with: each clock set closes a period. */
+
+static void room_calls(unsigned long until) {
+  static const uint32_t lengths[] = {65536, 65481, 65480, 65535};
+  lend(PICK(lengths), 0);
+  start(any32() / 2);
+  for (unsigned i = 0; i < 1000; i++) {
+    if (percent(20)) impulse(some_mask());
+    surely("set", percent(80) ? clock_now + below(1000) : any32());
+    if (i >= 940 && percent(40)) record_call();
+  }
   some_calls(calls + until);
 }
 
@@ -846,17 +1010,19 @@ static void long_calls(unsigned long until) {
 
 static void general_calls(unsigned long until) {
   some_calls(below(6));
-  start(some_time());
+  begin(some_time());
   some_calls(until);
 }
 
+/* What is wrong with the length or a slot is told before what is wrong with the image. */
 static void damaged_calls(unsigned long until) {
   some_calls(below(4));
+  if (percent(40)) lend(percent(50) ? bad_length() : good_length(), percent(50));
   start(some_time());
   line("image");
   register_of(LEVEL9, below(SLOTS));
   some_calls(until < 40 ? until : 40);
-  start(some_time());
+  begin(some_time());
   show(BILL, 2);
 }
 
@@ -864,6 +1030,7 @@ static void even_seed(uint32_t s, unsigned long count) {
   if (s % 200 == 3) { held_image(); held_calls(count); }
   else if (s % 200 == 103) { long_image(); long_calls(count); }
   else if (s % 20 == 9) { full_image(); full_calls(count); }
+  else if (s % 50 == 13) { some_image(); room_calls(count); }
   else { some_image(); general_calls(count); }
 }
 

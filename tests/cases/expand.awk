@@ -18,15 +18,15 @@ function flush() {
   print answer > (out "/" n ".answers")
   if (looks) {
     print waiting > (out "/" n ".looks")
-    if (waiting ~ /^(start|sample|set|reading|reset)/ && !pulsing) printf "%s", every_register > (out "/" n ".looks")
+    if (waiting ~ /^(profile|start|sample|set|reading|reset)/ && !pulsing) printf "%s", look > (out "/" n ".looks")
   }
   waiting = ""
 }
 
 BEGIN {
   count = split("82 32 89 1 90 32 91 16 201 16 202 16 203 16 204 1 206 1", group, " ")
-  for (g = 1; g <= count; g += 2) for (i = 0; i < group[g + 1]; i++) every_register = every_register "register " group[g] " " i "\n"
-  every_register = every_register "fleet\nimage\n"
+  for (g = 1; g <= count; g += 2) for (i = 0; i < group[g + 1]; i++) look = look "register " group[g] " " i "\n"
+  look = look "fleet\nimage\nrecord 0\nrecord 1\nrecord 2\n"
 }
 /^#/ || $0 == "" { next }
 $0 == "[image]" { flush(); n++; entries = ""; section = "image"; next }
@@ -43,7 +43,7 @@ section != "calls" { fail("neither an entry nor a call") }
 /^= / {
   if (waiting == "" || answer != "ok") fail("an answer without a call")
   answer = substr($0, 3)
-  if (waiting ~ /^register/ && answer !~ /^refused/) gsub(/ /, "", answer)
+  if (waiting ~ /^(register|record)/ && answer !~ /^refused/) gsub(/ /, "", answer)
   next
 }
 $1 == "pulses" {

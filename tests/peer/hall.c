@@ -17,6 +17,11 @@ static uint8_t image[IMAGE_LENGTH + 1]; /* one byte more, so that a longer file 
 static size_t image_length;
 static struct recorder recorder;
 
+/* What is lent for the load profile, from the front of one store, and the slots that the next start chooses. One byte more than is legal is enough for all that is too long. */
+static uint8_t store[LONGEST_PROFILE + 1];
+static struct lent lent = {store, LONGEST_PROFILE};
+static uint8_t slots[CHOSEN] = {0, 1, 2, 3, 4, 5, 6, 7};
+
 /* ---- The answers. */
 
 static void answer(uint32_t refusal) {
@@ -41,7 +46,7 @@ static void answer_samples(uint16_t bits, uint32_t count) {
     for (int i = 0; i < PIECE; i++) piece[i] = bits;
     while (all < count && refusal == 0) {
         size_t taken;
-        refusal = peer_samples(&recorder, piece, count - all < PIECE ? count - all : PIECE, &taken);
+        refusal = peer_samples(&recorder, lent, piece, count - all < PIECE ? count - all : PIECE, &taken);
         all += (uint32_t)taken;
     }
     if (refusal != 0) printf("refused %u after %u\n", refusal, all);
@@ -51,6 +56,13 @@ static void answer_samples(uint16_t bits, uint32_t count) {
 static void answer_register(uint32_t group, uint32_t number, uint32_t room) {
     uint8_t bytes[LONGEST_REGISTER];
     int given = peer_register(&recorder, group, number, bytes, room);
+    if (given < 0) answer((uint32_t)-given);
+    else answer_bytes(bytes, (size_t)given);
+}
+
+static void answer_record(uint32_t index, uint32_t room) {
+    uint8_t bytes[RECORD_LENGTH];
+    int given = peer_record(&recorder, lent, index, bytes, room);
     if (given < 0) answer((uint32_t)-given);
     else answer_bytes(bytes, (size_t)given);
 }
@@ -135,18 +147,13 @@ static bool value(unsigned k, int32_t *to) {
     return good || wrong_number("VALUE", INT32_MIN, INT32_MAX);
 }
 
-static void set_clock(uint32_t time) {
-    peer_set_clock(&recorder, time);
-    answer(0);
-}
-
 static void timed_line(void) {
     uint32_t time;
     if (words != 2) wrong_words("needs SECONDS");
     else if (!number(1, "SECONDS", UINT32_MAX, &time)) return;
     else if (command("date")) answer_date(time);
-    else if (command("set")) set_clock(time);
-    else answer_at(peer_start(&recorder, image, image_length, time));
+    else if (command("set")) answer(peer_set_clock(&recorder, lent, time));
+    else answer_at(peer_start(&recorder, lent.length, slots, image, image_length, time));
 }
 
 static void sample_line(void) {
@@ -168,6 +175,28 @@ static void register_line(void) {
     if (words != 3 && words != 4) wrong_words("needs GROUP NUMBER or GROUP NUMBER ROOM");
     else if (number(1, "GROUP", UINT32_MAX, &group) && number(2, "NUMBER", UINT32_MAX, &n) && (words == 3 || number(3, "ROOM", UINT32_MAX, &room)))
         answer_register(group, n, room);
+}
+
+/* All its numbers are read before any is taken over. */
+static void profile_line(void) {
+    static const char *const names[CHOSEN] = {"S0", "S1", "S2", "S3", "S4", "S5", "S6", "S7"};
+    uint32_t length, slot[CHOSEN];
+    if (words != 2 + CHOSEN) {
+        wrong_words("needs LENGTH S0 S1 S2 S3 S4 S5 S6 S7");
+        return;
+    }
+    if (!number(1, "LENGTH", UINT32_MAX, &length)) return;
+    for (unsigned i = 0; i < CHOSEN; i++)
+        if (!number(2 + i, names[i], 255, &slot[i])) return;
+    lent.length = length < sizeof store ? length : sizeof store;
+    for (unsigned i = 0; i < CHOSEN; i++) slots[i] = (uint8_t)slot[i];
+    answer(0);
+}
+
+static void record_line(void) {
+    uint32_t index, room = RECORD_LENGTH;
+    if (words != 2 && words != 3) wrong_words("needs INDEX or INDEX ROOM");
+    else if (number(1, "INDEX", UINT32_MAX, &index) && (words == 2 || number(2, "ROOM", UINT32_MAX, &room))) answer_record(index, room);
 }
 
 static void reset_bills(void) {
@@ -196,6 +225,8 @@ static void answer_line(const char *line, size_t length) {
     else if (command("sample")) sample_line();
     else if (command("reading")) reading_line();
     else if (command("register")) register_line();
+    else if (command("profile")) profile_line();
+    else if (command("record")) record_line();
     else if (command("reset") || command("image") || command("fleet")) line_of_one_word();
     else wrong("no such command");
 }

@@ -1,4 +1,4 @@
-/* See recorder.h. A comment in quotation marks is a sentence of document 01. */
+/* See recorder.h. A comment in quotation marks is a sentence of document 01, or of document 02 where it says so. */
 #include "recorder.h"
 
 #include <stdbool.h>
@@ -14,6 +14,10 @@ enum { MOST_OPEN = 999999999, NONE = 255 };
 
 /* "Numbers in images and registers have the least significant byte first." */
 static uint32_t u16_at(const uint8_t *p) { return p[0] | (uint32_t)p[1] << 8; }
+
+static void put(uint8_t *p, uint64_t x, int n) {
+    for (int i = 0; i < n; i++) p[i] = (uint8_t)(x >> 8 * i);
+}
 
 /* ---- The calendar. */
 
@@ -155,10 +159,26 @@ static void read_bills(struct config *c) {
     }
 }
 
-uint32_t peer_start(struct recorder *r, const uint8_t *image, size_t length, uint32_t time) {
-    uint32_t refusal = peer_image_check(image, length);
+/* Document 02: "14 PROFILE BUFFER, for a length outside those limits or other than at the start, before anything else". */
+static bool within_limits(size_t length) { return length >= RECORD_LENGTH && length <= LONGEST_PROFILE; }
+
+static bool lent_good(const struct recorder *r, struct lent lent) { return within_limits(lent.length) && lent.length == r->profile.length; }
+
+/* An empty slot may be chosen, and one may be chosen twice. */
+static uint32_t start_refusal(size_t lent_length, const uint8_t *slots, const uint8_t *image, size_t length) {
+    if (!within_limits(lent_length)) return PROFILE_BUFFER << 16;
+    for (int i = 0; i < CHOSEN; i++)
+        if (slots[i] >= SLOTS) return NOT_FITTED << 16;
+    return peer_image_check(image, length);
+}
+
+uint32_t peer_start(struct recorder *r, size_t lent_length, const uint8_t slots[CHOSEN], const uint8_t *image, size_t length, uint32_t time) {
+    uint32_t refusal = start_refusal(lent_length, slots, image, length);
     memset(r, 0, sizeof *r);
     if (refusal != 0) return refusal;
+    r->profile.length = lent_length;
+    r->profile.places = (uint32_t)(lent_length / RECORD_LENGTH);
+    memcpy(r->profile.slots, slots, CHOSEN);
     memcpy(r->config.image, image, IMAGE_LENGTH);
     r->config.period = image[PERIOD_AT] * 60u;
     read_inputs(&r->config);
@@ -215,36 +235,52 @@ static int64_t level1(const struct recorder *r, uint32_t sum) {
     return all;
 }
 
-static int64_t level2(const struct recorder *r, uint32_t function) {
+static int64_t level2(const struct recorder *r, const int64_t *sums, uint32_t function) {
     int64_t all = 0;
-    for (uint32_t k = 0; k < SUMS; k++) all += (int8_t)r->config.image[COEFFICIENT_AT + SUMS * function + k] * level1(r, k);
+    for (uint32_t k = 0; k < SUMS; k++) all += (int8_t)r->config.image[COEFFICIENT_AT + SUMS * function + k] * sums[k];
     return all;
 }
 
-static int64_t chosen(const struct recorder *r, uint32_t level, uint32_t index) {
+static int64_t slot_value(const struct recorder *r, const int64_t *sums, uint32_t level, uint32_t index) {
     switch (level) {
     case 0: return r->units[index];
-    case 1: return level1(r, index);
-    case 2: return level2(r, index);
+    case 1: return sums[index];
+    case 2: return level2(r, sums, index);
     default: return 0;
     }
 }
 
-static void close_period(struct recorder *r, uint8_t state) {
-    for (int i = 0; i < SLOTS; i++) r->values[i] = chosen(r, r->config.image[SLOT_AT + 2 * i], r->config.image[SLOT_AT + 2 * i + 1]);
+/* Document 02: "Each closed period puts one 69-byte record (stamp 4, state 1, eight values of 8 bytes; an empty slot gives 0) ... When the room is used up, the oldest record's
+   room is taken for the newest." The oldest stands where the next one goes, once the places have been gone through. */
+static void put_record(struct recorder *r, uint8_t *bytes) {
+    struct profile *p = &r->profile;
+    uint8_t *record = bytes + RECORD_LENGTH * p->next;
+    put(record, r->period_stamp, 4);
+    record[4] = r->period_state;
+    for (int i = 0; i < CHOSEN; i++) put(record + 5 + 8 * i, (uint64_t)r->values[p->slots[i]], 8);
+    p->next = p->next + 1 == p->places ? 0 : p->next + 1;
+    if (p->held < p->places) p->held++;
+}
+
+/* Each sum is added up once, however many slots and functions name it. The loop over the slots stands here: gcc 12.2 takes it for one without effect in a function of its own. */
+static void close_period(struct recorder *r, uint8_t *bytes, uint8_t state) {
+    const uint8_t *image = r->config.image;
+    int64_t sums[SUMS];
+    for (uint32_t k = 0; k < SUMS; k++) sums[k] = level1(r, k);
+    for (int i = 0; i < SLOTS; i++) r->values[i] = slot_value(r, sums, image[SLOT_AT + 2 * i], image[SLOT_AT + 2 * i + 1]);
     r->period_state = state;
     r->period_stamp = r->clock;
     memset(r->units, 0, sizeof r->units);
+    put_record(r, bytes);
 }
 
-/* The blank recorder's period is 0 seconds, which has no multiple. */
-static void tick(struct recorder *r) {
+static void tick(struct recorder *r, uint8_t *bytes) {
     uint32_t period = r->config.period;
     r->clock++;
     r->samples = 0;
     if (r->clock % 60 == 0) r->on_known = 0;
-    if (period == 0 || r->clock % period != 0) return;
-    close_period(r, r->first % period == 0 ? 2 : 1);
+    if (r->clock % period != 0) return;
+    close_period(r, bytes, r->first % period == 0 ? 2 : 1);
     r->first = r->clock;
 }
 
@@ -350,9 +386,13 @@ static size_t idle(const uint16_t *bits, size_t n, uint32_t s1r, uint32_t fitted
     return k;
 }
 
-/* With no run to end, idle samples only count, but for the hundredth. */
-uint32_t peer_samples(struct recorder *r, const uint16_t *bits, size_t n, size_t *taken) {
+/* With no run to end, idle samples only count, but for the hundredth. The blank recorder, whose period of 0 seconds has no multiple, takes none. */
+uint32_t peer_samples(struct recorder *r, struct lent lent, const uint16_t *bits, size_t n, size_t *taken) {
     const uint32_t s1r = r->config.s1r, fitted = r->config.fitted;
+    if (!lent_good(r, lent)) {
+        *taken = 0;
+        return PROFILE_BUFFER;
+    }
     for (size_t k = 0; k < n; k++) {
         if (r->running == 0) {
             size_t left = 99 - r->samples, some = idle(bits + k, n - k < left ? n - k : left, s1r, fitted);
@@ -363,7 +403,7 @@ uint32_t peer_samples(struct recorder *r, const uint16_t *bits, size_t n, size_t
         *taken = k;
         if (r->samples == 99 && r->clock == UINT32_MAX) return CLOCK_END;
         if (!book(r, (bits[k] ^ s1r) & fitted)) return FULL;
-        if (++r->samples == 100) tick(r);
+        if (++r->samples == 100) tick(r, lent.bytes);
     }
     *taken = n;
     return 0;
@@ -382,11 +422,13 @@ uint32_t peer_reading(struct recorder *r, uint32_t meter, int32_t value, uint32_
 }
 
 /* "A clock set closes the period at the old time as short, sets the clock and starts second and period anew." */
-void peer_set_clock(struct recorder *r, uint32_t time) {
-    close_period(r, 1);
+uint32_t peer_set_clock(struct recorder *r, struct lent lent, uint32_t time) {
+    if (!lent_good(r, lent)) return PROFILE_BUFFER;
+    close_period(r, lent.bytes, 1);
     r->clock = r->first = time;
     r->samples = 0;
     r->on_known = 0;
+    return 0;
 }
 
 /* "A billing reset notes each open bill amount and the clock as closed and sets the open amount to 0." */
@@ -430,10 +472,6 @@ struct fleet peer_fleet(const struct recorder *r) {
         if (class == AWAKE) f.sum += r->meters[i].value;
     }
     return f;
-}
-
-static void put(uint8_t *p, uint64_t x, int n) {
-    for (int i = 0; i < n; i++) p[i] = (uint8_t)(x >> 8 * i);
 }
 
 /* "STATUS 1 (IV set unless awake) ...; never: zeros but STATUS 1." */
@@ -515,4 +553,18 @@ int peer_register(const struct recorder *r, uint32_t group, uint32_t number, uin
         return layouts[k].bytes;
     }
     return -NO_GROUP;
+}
+
+/* ---- The load profile. */
+
+/* Document 02: "Reading goes in writing order, oldest first (index 0)." */
+int peer_record(const struct recorder *r, struct lent lent, uint32_t index, uint8_t *buffer, size_t room) {
+    const struct profile *p = &r->profile;
+    size_t place = (p->held < p->places ? 0 : p->next) + (size_t)index;
+    if (!lent_good(r, lent)) return -PROFILE_BUFFER;
+    if (index >= p->held) return -NO_RECORD;
+    if (room < RECORD_LENGTH) return -NO_ROOM;
+    if (place >= p->places) place -= p->places;
+    memcpy(buffer, lent.bytes + RECORD_LENGTH * place, RECORD_LENGTH);
+    return RECORD_LENGTH;
 }

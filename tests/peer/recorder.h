@@ -1,5 +1,6 @@
 /*
- * Another recorder: the rules of document 01 and the decided points, in plain C. It shares no code and no definition with the crates.
+ * Another recorder: the rules of document 01, of the change requests of document 02 that have landed (1) and the decided points, in plain C. It shares no code and no
+ * definition with the crates.
  *
  * It serves all comparisons: the program hall is compared with it on random calls, on stored answers and on the cases (hall.c beside this file reads the lines), the C
  * functions by tests/differential.rs, and bench/run measures the product against it. So it works in place and is written for speed, and it answers every call.
@@ -10,12 +11,12 @@
 #include <stddef.h>
 #include <stdint.h>
 
-enum { IMAGE_LENGTH = 1126, LONGEST_REGISTER = 13 };
-enum { INPUTS = 16, SUMS = 8, FUNCTIONS = 4, SLOTS = 16, METERS = 32 };
+enum { IMAGE_LENGTH = 1126, LONGEST_REGISTER = 13, RECORD_LENGTH = 69, LONGEST_PROFILE = 65536 };
+enum { INPUTS = 16, SUMS = 8, FUNCTIONS = 4, SLOTS = 16, CHOSEN = 8, METERS = 32 };
 enum { DAILY = 32, WINDOWS = 4, WEEKLY = 16, SEASONS = 8, HOLIDAYS = 32, RULES = 16, BILLS = 16 };
 
 /* "Numbers of refusal." 9, NO DATE, is never given: each time of 32 bits has a date. */
-enum { LENGTH = 1, MARK, VERSION, VALUE, CLOCK_END, FULL, NO_METER, NOT_FITTED, READING = 10, NO_GROUP, NO_REGISTER, NO_ROOM };
+enum { LENGTH = 1, MARK, VERSION, VALUE, CLOCK_END, FULL, NO_METER, NOT_FITTED, READING = 10, NO_GROUP, NO_REGISTER, NO_ROOM, PROFILE_BUFFER, NO_RECORD };
 
 /* What is fixed: the image, and what samples ask for at every turn, worked out of it once. */
 struct config {
@@ -28,6 +29,19 @@ struct config {
     uint32_t used_rules;  /* by some bill register */
     uint32_t plain_bills; /* bill registers in use with no rule */
     uint8_t bill_sum[BILLS], bill_rule[BILLS];
+};
+
+/* The load profile: its records stand in the buffer that the calls lend, and only where the next goes is kept here. */
+struct profile {
+    size_t length; /* of the buffer at the start; 0 in the blank recorder, which no buffer has that is taken */
+    uint32_t places, next, held; /* the places for records, that of the next one, and how many records there are */
+    uint8_t slots[CHOSEN];
+};
+
+/* The buffer that a call lends for the load profile. */
+struct lent {
+    uint8_t *bytes;
+    size_t length;
 };
 
 struct meter {
@@ -49,6 +63,7 @@ struct recorder {
     uint8_t period_state; /* of the last closed period: 0 none, 1 short, 2 whole */
     uint32_t period_stamp;
     int64_t values[SLOTS]; /* level 9 */
+    struct profile profile;
     uint32_t on_known, on; /* the bill registers that units go to in the present minute, if they were asked for */
 };
 
@@ -68,21 +83,27 @@ uint64_t peer_calendar(uint32_t seconds);
 /* A meter's age class, or 8 for limit 0, then 10 for STATUS above 7. `read` is 0 for no, and any other number for yes. */
 uint32_t peer_age_class(uint32_t limit, uint32_t read, uint32_t stamp, uint32_t status, uint32_t clock);
 
-/* As the image check. A refused start leaves the blank recorder, all zeros, and every call on that has its answer, too. */
-uint32_t peer_start(struct recorder *r, const uint8_t *image, size_t length, uint32_t time);
+/* As the image check, after the refusals of the lent buffer's length and of the slots that the load profile keeps. It writes nothing into the buffer, so the length is all
+   that it is given. A refused start leaves the blank recorder, all zeros, and every call on that has its answer, too. */
+uint32_t peer_start(struct recorder *r, size_t lent_length, const uint8_t slots[CHOSEN], const uint8_t *image, size_t length, uint32_t time);
 
 /* Takes samples to the first refusal, which it answers; 0 where all were taken. */
-uint32_t peer_samples(struct recorder *r, const uint16_t *bits, size_t n, size_t *taken);
+uint32_t peer_samples(struct recorder *r, struct lent lent, const uint16_t *bits, size_t n, size_t *taken);
 
 /* The refusal, or 0. */
 uint32_t peer_reading(struct recorder *r, uint32_t meter, int32_t value, uint32_t status, uint32_t seq);
 
-void peer_set_clock(struct recorder *r, uint32_t time);
+/* The refusal, or 0. */
+uint32_t peer_set_clock(struct recorder *r, struct lent lent, uint32_t time);
+
 void peer_reset(struct recorder *r);
 struct fleet peer_fleet(const struct recorder *r);
 
 /* The bytes given, or minus the refusal. */
 int peer_register(const struct recorder *r, uint32_t group, uint32_t number, uint8_t *buffer, size_t room);
+
+/* A record of the load profile, the oldest by index 0, as the lent buffer holds it. The bytes given, or minus the refusal. */
+int peer_record(const struct recorder *r, struct lent lent, uint32_t index, uint8_t *buffer, size_t room);
 
 /* Writes the configuration's image. 0, or refusal x 65,536 + offset. */
 uint32_t peer_write_image(const struct recorder *r, uint8_t *buffer, size_t room);

@@ -7,7 +7,7 @@ use native.Mathlib.Nat.{pow-suc, lt-trans, not-suc-le-zero}
 use borrow.Author.Tests.{lt-ltb, le-ltb, ltb-true, le-leb, lt-leb}
 use native.Mathlib.Numerals.{add-one}
 use native.Mathlib.Omega.{arith}
-use lib.Dec.{ltb, lit<}
+use lib.Dec.{ltb, eqb, lit<}
 use lib.IntN.{ℤ, pos, negsuc}
 use lib.Signed.{mag, ltZ}
 use lib.ListN.{length, getD, take, drop, length-drop, drop-of-length-le, List·getD-eq-default}
@@ -16,9 +16,10 @@ use mir.Syntax.{w64}
 use mir.Val.{ofZ}
 use Rattle.laws.proofs.Tests.{by-test}
 use Rattle.laws.specs.Answers.{given}
+use Rattle.laws.specs.If.{if_then_else_}
 use Rattle.laws.specs.Letters.{letters}
 use Rattle.answers.specs.declared.Text.{Text}
-use Rattle.answers.specs.Texts.{withByte, withBytes}
+use Rattle.answers.specs.Texts.{withByte, withBytes, rowAt}
 use Rattle.answers.specs.Numbers.{digit, decimalIn, decimalOf, decimalSigned, hexDigit, hexOf}
 use Rattle.answers.specs.Answers.{lineEnd, imagePart, weekdayNames, weekdayName}
 
@@ -49,6 +50,19 @@ module _ (t : Text) (l : List ℕ) (i : ℕ) where
   pub hex-done : length l ≤ i → withBytes t (hexOf (drop i l)) ≡ t
   unfolding withBytes hexOf
   hex-done h = rw (drop-of-length-le l h)
+
+-- a turn of the loop that looks for row k of a table
+module _ (k : ℕ) (l : List ℕ) (i : ℕ) where
+  pub row-turn : i < length l
+      → rowAt k (drop i l) ≡ (if eqb (getD l i 0) 10 then (if eqb k 0 then [] else rowAt (k - 1) (drop (i + 1) l))
+      else if eqb k 0 then getD l i 0 ∷ rowAt k (drop (i + 1) l) else rowAt k (drop (i + 1) l))
+  unfolding rowAt
+  row-turn h = rw (add-one i, drop-cons l i 0)
+
+  -- no letter is left
+  pub row-done : length l ≤ i → rowAt k (drop i l) ≡ []
+  unfolding rowAt
+  row-done h = rw (drop-of-length-le l h)
 
 -- a number below 10 is one digit
 one-digit : (k n : ℕ) → n < 10 → decimalIn (suc k) n ≡ digit n ∷ []

@@ -8,6 +8,7 @@ use Rattle.answers.proofs.samples_line.Reads as samples-line-reads
 use Rattle.answers.proofs.set_line.Reads as set-line-reads
 use Rattle.answers.proofs.reading_line.Reads as reading-line-reads
 use Rattle.answers.proofs.register_line.Reads as register-line-reads
+use Rattle.answers.proofs.record_line.Reads as record-line-reads
 use Rattle.answers.proofs.image_part.Reads as image-part-reads
 use Rattle.answers.proofs.fleet_line.Reads as fleet-line-reads
 use Rattle.answers.proofs.date_line.Reads as date-line-reads
@@ -33,6 +34,9 @@ reading-line κs a x y e f p q = p ∙ sym q
 
 pub register-line : OneResult register-line-reads.Post
 register-line κs a x y e f p q = p ∙ sym q
+
+pub record-line : OneResult record-line-reads.Post
+record-line κs a x y e f p q = p ∙ sym q
 
 pub image-part : OneResult image-part-reads.Post
 image-part κs a x y e f p q = p ∙ sym q

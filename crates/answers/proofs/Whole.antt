@@ -25,7 +25,7 @@ use Rattle.answers.specs.declared.Text.{Text}
 use Rattle.answers.specs.Texts.{withByte, withBytes, asText}
 use Rattle.answers.specs.Numbers.{decimalIn, decimalOf, decimalSigned, hexOf}
 use Rattle.answers.specs.Errors.{wordsText, numbersText, mistakeText}
-use Rattle.answers.specs.Answers.{lineEnd, okLine, refusedLine, refusedAt, refusedAfter, startLine, registerLine, imagePart, weekdayName, dateLine, fleetLine, errorLine}
+use Rattle.answers.specs.Answers.{lineEnd, okLine, refusedLine, refusedAt, refusedAfter, startLine, registerLine, recordLine, imagePart, weekdayName, dateLine, fleetLine, errorLine}
 use Rattle.answers.specs.Laws.{TextIs, Fits, NoneCut, EmptyLine, partsFrom, PartsJoin}
 
 -- letters with zeros behind them
@@ -98,6 +98,8 @@ words-short command.Register = omega arith
 words-short command.Image = omega arith
 words-short command.Date = omega arith
 words-short command.Fleet = omega arith
+words-short command.Profile = omega arith
+words-short command.Record = omega arith
 
 numbers-short : (p : Parameter) → length (numbersText p) ≤ 60
 unfolding numbersText letters
@@ -111,6 +113,9 @@ numbers-short parameter.Seq = omega arith
 numbers-short parameter.Group = omega arith
 numbers-short parameter.Number = omega arith
 numbers-short parameter.Room = omega arith
+numbers-short parameter.Length = omega arith
+numbers-short parameter.Index = omega arith
+numbers-short (parameter.Slot k) = simp length-append (omega (arith, digits k))
 
 mistake-short : (m : Mistake) → length (mistakeText m) ≤ 60
 unfolding mistakeText letters
@@ -144,6 +149,10 @@ register-short : (a : Answer ℕ) (bytes : List ℕ) → length bytes ≡ 13 →
 register-short (given n) bytes h = simp (length-append, hex-length, length-take) (omega arith)
 register-short (refused n offset) bytes h = refused-short n
 
+record-short : (a : Answer (Unit {0})) (bytes : List ℕ) → length bytes ≡ 69 → Fits (recordLine a bytes)
+record-short (given u) bytes h = simp (length-append, hex-length) (omega arith)
+record-short (refused n offset) bytes h = refused-short n
+
 image-short : (a : Answer (Unit {0})) (image : List ℕ) (from : ℕ) → Fits (imagePart a image from)
 unfolding imagePart
 image-short (given u) image from =
@@ -172,6 +181,7 @@ none-cut =
       samples = λ n k. if-cases Fits (eqb n 0) (λ e. ok-short) (λ e. after-short n k);
       start = start-short;
       register = register-short;
+      profile-record = record-short;
       image = image-short;
       date = date-short;
       fleet = fleet-short;

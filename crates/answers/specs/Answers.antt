@@ -50,6 +50,11 @@ abbrev pub registerLine : Answer ℕ → List ℕ → List ℕ
 registerLine (given n) bytes = hexOf (take n bytes) ++ lineEnd
 registerLine (refused n offset) bytes = refusedLine n
 
+-- the line of a request for a record: its bytes, or the refusal
+abbrev pub recordLine : Answer (Unit {0}) → List ℕ → List ℕ
+recordLine (given u) bytes = hexOf bytes ++ lineEnd
+recordLine (refused n offset) bytes = refusedLine n
+
 -- the line of an image written back: its bytes, or the refusal
 abbrev pub imageLine : Answer (Unit {0}) → List ℕ → List ℕ
 imageLine (given u) image = hexOf image ++ lineEnd

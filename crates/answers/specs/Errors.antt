@@ -1,5 +1,5 @@
 -- What is wrong with a line, and what would be right there.
-use mathlib.Core.List.{List}
+use mathlib.Core.List.{List, _++_}
 use Prim.Native.Nat.{ℕ}
 use Rattle.laws.specs.Letters.{letters}
 use Rattle.lines.specs.declared.Mistake.{Mistake}
@@ -8,6 +8,7 @@ use Rattle.lines.specs.declared.Command.{Command}
 use Rattle.lines.specs.declared.Command.the-variants as command
 use Rattle.lines.specs.declared.Parameter.{Parameter}
 use Rattle.lines.specs.declared.Parameter.the-variants as parameter
+use Rattle.answers.specs.Numbers.{decimalOf}
 
 -- the words that a command needs
 unfoldable pub wordsText : Command → List ℕ
@@ -20,6 +21,8 @@ wordsText command.Register = letters "register needs GROUP NUMBER or GROUP NUMBE
 wordsText command.Image = letters "image stands alone"
 wordsText command.Date = letters "date needs SECONDS"
 wordsText command.Fleet = letters "fleet stands alone"
+wordsText command.Profile = letters "profile needs LENGTH S0 S1 S2 S3 S4 S5 S6 S7"
+wordsText command.Record = letters "record needs INDEX or INDEX ROOM"
 
 -- the numbers that a parameter can be
 unfoldable pub numbersText : Parameter → List ℕ
@@ -33,6 +36,9 @@ numbersText parameter.Seq = letters "SEQ is not a number from 0 to 255"
 numbersText parameter.Group = letters "GROUP is not a number from 0 to 4294967295"
 numbersText parameter.Number = letters "NUMBER is not a number from 0 to 4294967295"
 numbersText parameter.Room = letters "ROOM is not a number from 0 to 4294967295"
+numbersText parameter.Length = letters "LENGTH is not a number from 0 to 4294967295"
+numbersText parameter.Index = letters "INDEX is not a number from 0 to 4294967295"
+numbersText (parameter.Slot k) = letters "S" ++ (decimalOf k ++ letters " is not a number from 0 to 255")
 
 -- what is wrong with a line
 unfoldable pub mistakeText : Mistake → List ℕ

@@ -10,7 +10,7 @@ use Rattle.calendar.specs.declared.Moment.{Moment}
 use Rattle.image.specs.Answers.{imageAnswer}
 use Rattle.registers.specs.declared.fleet.Fleet.{Fleet}
 use Rattle.answers.specs.Texts.{asText}
-use Rattle.answers.specs.Answers.{lineEnd, numberLine, samplesLine, startLine, registerLine, imageLine, imagePart, dateLine, fleetLine, errorLine}
+use Rattle.answers.specs.Answers.{lineEnd, numberLine, samplesLine, startLine, registerLine, recordLine, imageLine, imagePart, dateLine, fleetLine, errorLine}
 
 -- a text of at most 256 letters is the letters, with zeros behind them
 abbrev pub TextIs : Type 0
@@ -26,6 +26,7 @@ pub record NoneCut : Type 0 where
   pub samples : (n k : ℕ) → Fits (samplesLine n k)
   pub start : (a : Answer (Unit {0})) → Fits (startLine a)
   pub register : (a : Answer ℕ) (bytes : List ℕ) → length bytes ≡ 13 → Fits (registerLine a bytes)
+  pub profile-record : (a : Answer (Unit {0})) (bytes : List ℕ) → length bytes ≡ 69 → Fits (recordLine a bytes)
   pub image : (a : Answer (Unit {0})) (image : List ℕ) (from : ℕ) → Fits (imagePart a image from)
   pub date : (a : Answer Moment) → Fits (dateLine a)
   pub fleet : (f : Fleet) → Fits (fleetLine f)

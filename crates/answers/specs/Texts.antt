@@ -1,7 +1,7 @@
 -- Texts of at most 256 letters, as the code has them: letter after letter, with zeros behind them.
 use mathlib.Core.List.{List, [], _∷_}
-use Prim.Native.Nat.{ℕ, _+_}
-use lib.Dec.{ltb}
+use Prim.Native.Nat.{ℕ, _+_, _-_}
+use lib.Dec.{ltb, eqb}
 use lib.ListN.{replicate, set}
 use Rattle.laws.specs.If.{if_then_else_}
 use Rattle.answers.specs.declared.Text.{Text}
@@ -22,3 +22,11 @@ withBytes t (b ∷ rest) = withBytes (withByte t b) rest
 -- the text of letters
 abbrev pub asText : List ℕ → Text
 asText l = withBytes blankText l
+
+-- row k of a table, counted from 0: each row stands on a line, and 10 between two of them
+unfoldable pub rowAt : ℕ → List ℕ → List ℕ
+rowAt k [] = []
+rowAt k (b ∷ rest) =
+    let row = rowAt k rest in
+    let later = rowAt (k - 1) rest in
+    if eqb b 10 then (if eqb k 0 then [] else later) else if eqb k 0 then b ∷ row else row

@@ -3,7 +3,7 @@ use crate::Text;
 use crate::numbers::with_two;
 use crate::texts::blank;
 use crate::texts::with_byte;
-use crate::texts::with_bytes;
+use crate::texts::with_row;
 use calendar::Moment;
 ghost use mathlib.Core.Path.{_≡_};
 ghost use mathlib.Core.List.{_++_};
@@ -15,15 +15,11 @@ ghost use Rattle.answers.specs.Answers.{weekdayName, dayText, timeText, 
 fn weekday(weekday: u8) -> Text
     ensures { λ r. ⌜ r ≡ asText (weekdayName weekday ++ letters " ") ⌝ }
 {
-    match weekday {
-        0 => with_bytes(blank(), b"Monday "),
-        1 => with_bytes(blank(), b"Tuesday "),
-        2 => with_bytes(blank(), b"Wednesday "),
-        3 => with_bytes(blank(), b"Thursday "),
-        4 => with_bytes(blank(), b"Friday "),
-        5 => with_bytes(blank(), b"Saturday "),
-        _ => with_bytes(blank(), b"Sunday "),
+    let names: &[u8] = b"Monday \nTuesday \nWednesday \nThursday \nFriday \nSaturday \nSunday ";
+    if weekday < 6 {
+        return with_row(blank(), names, weekday as usize);
     }
+    with_row(blank(), names, 6)
 }
 
 fn with_day(text: Text, m: Moment) -> Text

@@ -1,6 +1,9 @@
 // What is wrong with a line, put behind the letters of a text.
 use crate::Text;
+use crate::numbers::with_number;
+use crate::texts::with_byte;
 use crate::texts::with_bytes;
+use crate::texts::with_row;
 use lines::Command;
 use lines::Mistake;
 use lines::Parameter;
@@ -11,36 +14,63 @@ ghost use Rattle.answers.specs.Errors.{wordsText, numbersText, mistakeTe
 fn with_words(text: Text, command: Command) -> Text
     ensures { λ r. ⌜ r ≡ withBytes text (wordsText command) ⌝ }
 {
+    let needs: &[u8] = b"start needs SECONDS\n\
+        sample needs BITS or BITS COUNT\n\
+        set needs SECONDS\n\
+        reading needs METER VALUE STATUS SEQ\n\
+        reset stands alone\n\
+        register needs GROUP NUMBER or GROUP NUMBER ROOM\n\
+        image stands alone\n\
+        date needs SECONDS\n\
+        fleet stands alone\n\
+        profile needs LENGTH S0 S1 S2 S3 S4 S5 S6 S7\n\
+        record needs INDEX or INDEX ROOM";
     match command {
-        Command::Start => with_bytes(text, b"start needs SECONDS"),
-        Command::Sample => with_bytes(text, b"sample needs BITS or BITS COUNT"),
-        Command::Set => with_bytes(text, b"set needs SECONDS"),
-        Command::Reading => with_bytes(text, b"reading needs METER VALUE STATUS SEQ"),
-        Command::Reset => with_bytes(text, b"reset stands alone"),
-        Command::Register => with_bytes(text, b"register needs GROUP NUMBER or GROUP NUMBER ROOM"),
-        Command::Image => with_bytes(text, b"image stands alone"),
-        Command::Date => with_bytes(text, b"date needs SECONDS"),
-        Command::Fleet => with_bytes(text, b"fleet stands alone"),
+        Command::Start => with_row(text, needs, 0),
+        Command::Sample => with_row(text, needs, 1),
+        Command::Set => with_row(text, needs, 2),
+        Command::Reading => with_row(text, needs, 3),
+        Command::Reset => with_row(text, needs, 4),
+        Command::Register => with_row(text, needs, 5),
+        Command::Image => with_row(text, needs, 6),
+        Command::Date => with_row(text, needs, 7),
+        Command::Fleet => with_row(text, needs, 8),
+        Command::Profile => with_row(text, needs, 9),
+        Command::Record => with_row(text, needs, 10),
     }
 }
 
 fn with_numbers(text: Text, parameter: Parameter) -> Text
     ensures { λ r. ⌜ r ≡ withBytes text (numbersText parameter) ⌝ }
 {
+    // The last row stands behind the name of a slot.
+    let limits: &[u8] = b"SECONDS is not a number from 0 to 4294967295\n\
+        BITS is not a number from 0 to 65535\n\
+        COUNT is not a number from 0 to 4294967295\n\
+        METER is not a number from 0 to 255\n\
+        VALUE is not a number from -2147483648 to 2147483647\n\
+        STATUS is not a number from 0 to 255\n\
+        SEQ is not a number from 0 to 255\n\
+        GROUP is not a number from 0 to 4294967295\n\
+        NUMBER is not a number from 0 to 4294967295\n\
+        ROOM is not a number from 0 to 4294967295\n\
+        LENGTH is not a number from 0 to 4294967295\n\
+        INDEX is not a number from 0 to 4294967295\n\
+        \x20is not a number from 0 to 255";
     match parameter {
-        Parameter::Seconds => with_bytes(text, b"SECONDS is not a number from 0 to 4294967295"),
-        Parameter::Bits => with_bytes(text, b"BITS is not a number from 0 to 65535"),
-        Parameter::Count => with_bytes(text, b"COUNT is not a number from 0 to 4294967295"),
-        Parameter::Meter => with_bytes(text, b"METER is not a number from 0 to 255"),
-        Parameter::Value => with_bytes(
-            text,
-            b"VALUE is not a number from -2147483648 to 2147483647",
-        ),
-        Parameter::Status => with_bytes(text, b"STATUS is not a number from 0 to 255"),
-        Parameter::Seq => with_bytes(text, b"SEQ is not a number from 0 to 255"),
-        Parameter::Group => with_bytes(text, b"GROUP is not a number from 0 to 4294967295"),
-        Parameter::Number => with_bytes(text, b"NUMBER is not a number from 0 to 4294967295"),
-        Parameter::Room => with_bytes(text, b"ROOM is not a number from 0 to 4294967295"),
+        Parameter::Seconds => with_row(text, limits, 0),
+        Parameter::Bits => with_row(text, limits, 1),
+        Parameter::Count => with_row(text, limits, 2),
+        Parameter::Meter => with_row(text, limits, 3),
+        Parameter::Value => with_row(text, limits, 4),
+        Parameter::Status => with_row(text, limits, 5),
+        Parameter::Seq => with_row(text, limits, 6),
+        Parameter::Group => with_row(text, limits, 7),
+        Parameter::Number => with_row(text, limits, 8),
+        Parameter::Room => with_row(text, limits, 9),
+        Parameter::Length => with_row(text, limits, 10),
+        Parameter::Index => with_row(text, limits, 11),
+        Parameter::Slot(k) => with_row(with_number(with_byte(text, b'S'), k as u64), limits, 12),
     }
 }
 

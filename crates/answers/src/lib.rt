@@ -12,6 +12,7 @@ use numbers::with_hex;
 use numbers::with_number;
 use numbers::with_signed;
 use recorder::ReadingAnswer;
+use recorder::RecordAnswer;
 use recorder::SetAnswer;
 use recorder::StartAnswer;
 use registers::Fleet;
@@ -27,10 +28,11 @@ ghost use Rattle.calendar.specs.Moments.{momentOf};
 ghost use Rattle.sampling.specs.Samples.{sampleNumber};
 ghost use Rattle.recorder.specs.Calls.{startNumber, setNumber, readingNumber};
 ghost use Rattle.image.specs.Answers.{imageAnswer, writeSaid};
+ghost use Rattle.profile.specs.Reading.{recordSaid};
 ghost use Rattle.registers.specs.Registers.{registerSaid};
 ghost use Rattle.answers.specs.Texts.{withBytes, asText};
 ghost use Rattle.answers.specs.Numbers.{decimalOf, hexOf};
-ghost use Rattle.answers.specs.Answers.{okLine, refusedLine, refusedAt, refusedAfter, numberLine, samplesLine, startLine, registerLine, imagePart, lineEnd, dateLine, classesText, fleetLine, errorLine};
+ghost use Rattle.answers.specs.Answers.{okLine, refusedLine, refusedAt, refusedAfter, numberLine, samplesLine, startLine, registerLine, recordLine, imagePart, lineEnd, dateLine, classesText, fleetLine, errorLine};
 
 // A text of at most 256 letters: the first `length` bytes, and zeros behind them.
 pub struct Text {
@@ -86,6 +88,8 @@ pub fn start_line(answer: StartAnswer) -> Text
 {
     match answer {
         StartAnswer::Started => ok(),
+        StartAnswer::ProfileBuffer => refused_at(14, 0),
+        StartAnswer::NotFitted => refused_at(8, 0),
         StartAnswer::Length => refused_at(1, 0),
         StartAnswer::Mark => refused_at(2, 0),
         StartAnswer::Version => refused_at(3, 3),
@@ -100,6 +104,7 @@ pub fn samples_line(answer: SampleAnswer, taken: u32) -> Text
 {
     match answer {
         SampleAnswer::Taken => ok(),
+        SampleAnswer::ProfileBuffer => refused_after(14, taken as u64),
         SampleAnswer::ClockEnd => refused_after(5, taken as u64),
         SampleAnswer::Full => refused_after(6, taken as u64),
     }
@@ -110,6 +115,7 @@ pub fn set_line(answer: SetAnswer) -> Text
 {
     match answer {
         SetAnswer::Set => ok(),
+        SetAnswer::ProfileBuffer => refused(14),
         SetAnswer::NoDate => refused(9),
     }
 }
@@ -151,6 +157,18 @@ pub fn register_line(answer: RegisterAnswer, bytes: [u8; 13]) -> Text
         RegisterAnswer::NoRegister => refused(12),
         RegisterAnswer::NotFitted => refused(8),
         RegisterAnswer::NoRoom => refused(13),
+    }
+}
+
+// The bytes of a record, where it was given.
+pub fn record_line(answer: RecordAnswer, bytes: [u8; 69]) -> Text
+    ensures { λ r. ⌜ r ≡ asText (recordLine (recordSaid answer) bytes) ⌝ }
+{
+    match answer {
+        RecordAnswer::Given => hex_line(&bytes),
+        RecordAnswer::ProfileBuffer => refused(14),
+        RecordAnswer::NoRecord => refused(15),
+        RecordAnswer::NoRoom => refused(13),
     }
 }
 

@@ -5,8 +5,11 @@ use calendar::Dated;
 use calendar::Moment;
 use image::IMAGE_LENGTH;
 use image::ImageAnswer;
+use recorder::RecordAnswer;
 use recorder::Recorder;
 use recorder::SampleAnswer;
+use recorder::SetAnswer;
+use recorder::Setup;
 use registers::RegisterAnswer;
 
 // Tuesday 01.04.1997, 00:00.
@@ -36,8 +39,12 @@ fn with_readings(recorder: Recorder) -> Recorder {
     now
 }
 
-fn started(image: [u8; IMAGE_LENGTH]) -> Recorder {
-    let start = Recorder::start(&image, START);
+// The buffer for records is lent to each call of a job.
+fn started(image: [u8; IMAGE_LENGTH], buffer: &[u8]) -> Recorder {
+    let setup = Setup {
+        slots: [0, 1, 2, 3, 4, 5, 6, 7],
+    };
+    let start = Recorder::start(&image, START, setup, buffer);
     let recorder = start.recorder;
     with_readings(recorder)
 }
@@ -45,17 +52,18 @@ fn started(image: [u8; IMAGE_LENGTH]) -> Recorder {
 fn refusal(answer: SampleAnswer) -> u64 {
     match answer {
         SampleAnswer::Taken => 0,
+        SampleAnswer::ProfileBuffer => 14,
         SampleAnswer::ClockEnd => 5,
         SampleAnswer::Full => 6,
     }
 }
 
 // All samples in one call, and then again. The check sum is of the refusals.
-fn samples(recorder: Recorder, bits: [u16; 1000], rounds: u32) {
+fn samples(recorder: Recorder, bits: [u16; 1000], rounds: u32, buffer: &mut [u8]) {
     let mut now = recorder;
     let mut sum: u64 = 0;
     for i in 0..rounds {
-        let run = now.samples(&bits);
+        let run = now.samples(&bits, buffer);
         now = run.recorder;
         let answer = run.answer;
         sum = mixed(sum, refusal(answer));
@@ -65,12 +73,12 @@ fn samples(recorder: Recorder, bits: [u16; 1000], rounds: u32) {
 }
 
 // The same samples, each in a call of its own.
-fn singles(recorder: Recorder, bits: [u16; 1000], rounds: u32) {
+fn singles(recorder: Recorder, bits: [u16; 1000], rounds: u32, buffer: &mut [u8]) {
     let mut now = recorder;
     let mut sum: u64 = 0;
     for i in 0..rounds {
         for k in 0..1000usize {
-            let sampled = now.sample(bits[k]);
+            let sampled = now.sample(bits[k], buffer);
             now = sampled.recorder;
             let answer = sampled.answer;
             sum = mixed(sum, refusal(answer));
@@ -174,17 +182,95 @@ fn moments(rounds: u32) {
     write_number(sum);
 }
 
+fn set_number(answer: SetAnswer) -> u64 {
+    match answer {
+        SetAnswer::Set => 0,
+        SetAnswer::ProfileBuffer => 14,
+        SetAnswer::NoDate => 9,
+    }
+}
+
+// A buffer that is full and more: 1,000 periods, each with ten samples and closed by a clock set.
+fn filled(recorder: Recorder, bits: [u16; 1000], buffer: &mut [u8]) -> Recorder {
+    let mut now = recorder;
+    for i in 0..1000u32 {
+        let from = (i % 100 * 10) as usize;
+        let to = from + 10;
+        let run = now.samples(&bits[from..to], buffer);
+        now = run.recorder;
+        let set = now.set_clock(spread(i), buffer);
+        now = set.recorder;
+    }
+    now
+}
+
+fn bytes_sum(sum: u64, bytes: &[u8]) -> u64 {
+    let mut next = sum;
+    for i in 0..bytes.len() {
+        next = mixed(next, wide(bytes[i]));
+    }
+    next
+}
+
+// A period is closed by a clock set, and its record put. The check sum is of the refusals, and then of the whole buffer.
+fn closes(recorder: Recorder, rounds: u32, buffer: &mut [u8]) {
+    let mut now = recorder;
+    let mut sum: u64 = 0;
+    for i in 0..rounds {
+        let set = now.set_clock(spread(i), buffer);
+        now = set.recorder;
+        let answer = set.answer;
+        sum = mixed(sum, set_number(answer));
+    }
+    write_number(bytes_sum(sum, buffer));
+}
+
+fn record_number(answer: RecordAnswer) -> u64 {
+    match answer {
+        RecordAnswer::Given => 69,
+        RecordAnswer::ProfileBuffer => 14,
+        RecordAnswer::NoRecord => 15,
+        RecordAnswer::NoRoom => 13,
+    }
+}
+
+// One record of the 949 that are held, and another byte of it each time.
+fn record(recorder: Recorder, i: u32, buffer: &[u8]) -> u64 {
+    let mut bytes = [0u8; 69];
+    let answer = recorder.read_record(i % 949, buffer, &mut bytes);
+    let k = (i % 69) as usize;
+    mixed(record_number(answer), wide(bytes[k]))
+}
+
+fn records(recorder: Recorder, rounds: u32, buffer: &[u8]) {
+    let mut sum: u64 = 0;
+    for i in 0..rounds {
+        sum = mixed(sum, record(recorder, i, buffer));
+    }
+    write_number(sum);
+}
+
 pub(crate) fn run(letter: u8, image: [u8; IMAGE_LENGTH], bits: [u16; 1000], rounds: u32) {
+    let mut buffer = [0u8; 65536];
+    let recorder = started(image, &buffer);
     match letter {
-        b's' => samples(started(image), bits, rounds),
-        b'o' => singles(started(image), bits, rounds),
+        b's' => samples(recorder, bits, rounds, &mut buffer),
+        b'o' => singles(recorder, bits, rounds, &mut buffer),
         b'i' => images(image, rounds),
         b'r' => {
-            let run = started(image).samples(&bits);
-            let recorder = run.recorder;
-            reads(recorder.reset_bills(), rounds)
+            let run = recorder.samples(&bits, &mut buffer);
+            let reset = run.recorder;
+            reads(reset.reset_bills(), rounds)
         }
         b'c' => moments(rounds),
+        b'p' => {
+            let full = filled(recorder, bits, &mut buffer);
+            closes(full, rounds, &mut buffer)
+        }
+        b'l' => {
+            let full = filled(recorder, bits, &mut buffer);
+            records(full, rounds, &buffer)
+        }
         _ => {}
     }
 }

@@ -30,6 +30,7 @@ use Rattle.recorder.specs.Clock.{setTo, setOf, closedBill, resetOf}
 use Rattle.recorder.specs.Meters.{readingOf}
 use Rattle.recorder.specs.Calls.{freshState}
 use Rattle.recorder.specs.History.{Call, sample, set as set-call, reading, reset, afterAll}
+use Rattle.recorder.specs.declared.Setup.{Setup}
 use Rattle.registers.specs.Fleet.{meterAt}
 use Rattle.counting.specs.declared.Line.{Line}
 use Rattle.counting.specs.declared.Bill.{Bill}
@@ -132,11 +133,11 @@ module _ (c : Config) (s : State) (a : Account) (bits : ℕ) (old : Agrees c s a
       (λ u. ap₂ (λ (amount n : ℕ). ltb 0 n && ltb 999_999_999 (amount + n)) (amount-same j l u) (due-same j u) ∙ sym (rw u))
       (λ f. rw (due-none c s bits j f, f))
 
-  full-same : bookingOn c s bits .full ≡ any 16 (overfull c (a .journal) now)
+  pub full-same : bookingOn c s bits .full ≡ any 16 (overfull c (a .journal) now)
   unfolding bookingOf bookedOf
   full-same = any-cong 16 (fillsOn c s bits) (overfull c (a .journal) now) fills-same
 
-  end-same : clockEnd s ≡ (eqb (a .time .second) 4_294_967_295 && eqb (a .time .samples) 99)
+  pub end-same : clockEnd s ≡ (eqb (a .time .second) 4_294_967_295 && eqb (a .time .samples) 99)
   end-same = ap₂ _&&_ (ap (λ (n : ℕ). eqb n 4_294_967_295) (old .clock)) (hundredth c s a old)
 
   -- bill j with its units
@@ -374,40 +375,43 @@ stateAfter c s (set-call seconds) = replyTo s (setOf c s seconds) .after
 stateAfter c s (reading meter v status seq) = replyTo s (readingOf c s meter v status seq) .after
 stateAfter c s reset = resetOf c s
 
-one-more : (c : Config) (time : ℕ) (earlier : List Call) (call : Call) → reached c time (call ∷ earlier) .state ≡ stateAfter c (reached c time earlier .state) call
-unfolding afterAll
-one-more c time earlier (sample bits) = ap (λ (k : Config). stateAfter k (reached c time earlier .state) (sample bits)) (config-stays c time earlier)
-one-more c time earlier (set-call seconds) = ap (λ (k : Config). stateAfter k (reached c time earlier .state) (set-call seconds)) (config-stays c time earlier)
-one-more c time earlier (reading meter v status seq) = ap (λ (k : Config). stateAfter k (reached c time earlier .state) (reading meter v status seq)) (config-stays c time earlier)
-one-more c time earlier reset = ap (λ (k : Config). stateAfter k (reached c time earlier .state) reset) (config-stays c time earlier)
-
--- induction over the calls: a fresh start, and one call more
-pub by-calls : (c : Config) (time : ℕ) (P : State → Account → Type 0) → P (freshState time) (accountOf c time [])
-    → ((earlier : List Call) (call : Call) → P (reached c time earlier .state) (accountOf c time earlier)
-    → P (stateAfter c (reached c time earlier .state) call) (withCall c (accountOf c time earlier) call))
-    → (calls : List Call) → P (reached c time calls .state) (accountOf c time calls)
-unfolding afterAll accountOf
-by-calls c time P start step [] = start
-by-calls c time P start step (call ∷ earlier) =
-    subst (λ (s : State). P s (withCall c (accountOf c time earlier) call)) (sym (one-more c time earlier call)) (step earlier call (by-calls c time P start step earlier))
-
 call-agrees : (c : Config) (s : State) (a : Account) (call : Call) → Agrees c s a → Agrees c (stateAfter c s call) (withCall c a call)
 call-agrees c s a (sample bits) = sample-agrees c s a bits
 call-agrees c s a (set-call seconds) = set-agrees c s a seconds
 call-agrees c s a (reading meter v status seq) = reading-agrees c s a meter v status seq
 call-agrees c s a reset = reset-agrees c s a
 
-pub agrees : (c : Config) (time : ℕ) (calls : List Call) → Agrees c (reached c time calls .state) (accountOf c time calls)
-agrees c time = by-calls c time (Agrees c) (fresh-agrees c time) (λ earlier call. call-agrees c (reached c time earlier .state) (accountOf c time earlier) call)
+-- A start with any chosen slots and a buffer of any length
+module _ (setup : Setup) (lent : ℕ) where
+  -- the state after one call more
+  pub state-after : (c : Config) (time : ℕ) (earlier : List Call) (call : Call) → reached setup lent c time (call ∷ earlier) .state ≡ stateAfter c (reached setup lent c time earlier .state) call
+  unfolding afterAll
+  state-after c time earlier (sample bits) = ap (λ (k : Config). stateAfter k (reached setup lent c time earlier .state) (sample bits)) (config-stays setup lent c time earlier)
+  state-after c time earlier (set-call seconds) = ap (λ (k : Config). stateAfter k (reached setup lent c time earlier .state) (set-call seconds)) (config-stays setup lent c time earlier)
+  state-after c time earlier (reading meter v status seq) = ap (λ (k : Config). stateAfter k (reached setup lent c time earlier .state) (reading meter v status seq)) (config-stays setup lent c time earlier)
+  state-after c time earlier reset = ap (λ (k : Config). stateAfter k (reached setup lent c time earlier .state) reset) (config-stays setup lent c time earlier)
 
-pub answers-of-history : AnswersOfHistory
-answers-of-history c time calls (sample bits) =
-    let s = reached c time calls .state in
-    subst (λ (k : Config). replyTo s (sampleOf k s bits) .number ≡ numberOfSample c (accountOf c time calls) bits) (sym (config-stays c time calls))
-    (sample-case c s (accountOf c time calls) bits (agrees c time calls) .0)
-answers-of-history c time calls (set-call seconds) = set-number (reached c time calls .config) (reached c time calls .state) seconds
-answers-of-history c time calls (reading meter v status seq) =
-    let s = reached c time calls .state in
-    subst (λ (k : Config). replyTo s (readingOf k s meter v status seq) .number ≡ numberOfReading c meter status seq) (sym (config-stays c time calls))
-    (reading-number c s meter v status seq)
-answers-of-history c time calls reset = refl
+  -- induction over the calls: a fresh start, and one call more
+  pub by-calls : (c : Config) (time : ℕ) (P : State → Account → Type 0) → P (freshState time) (accountOf c time [])
+      → ((earlier : List Call) (call : Call) → P (reached setup lent c time earlier .state) (accountOf c time earlier)
+      → P (stateAfter c (reached setup lent c time earlier .state) call) (withCall c (accountOf c time earlier) call))
+      → (calls : List Call) → P (reached setup lent c time calls .state) (accountOf c time calls)
+  unfolding afterAll accountOf
+  by-calls c time P start step [] = start
+  by-calls c time P start step (call ∷ earlier) =
+      subst (λ (s : State). P s (withCall c (accountOf c time earlier) call)) (sym (state-after c time earlier call)) (step earlier call (by-calls c time P start step earlier))
+
+  pub agrees : (c : Config) (time : ℕ) (calls : List Call) → Agrees c (reached setup lent c time calls .state) (accountOf c time calls)
+  agrees c time = by-calls c time (Agrees c) (fresh-agrees c time) (λ earlier call. call-agrees c (reached setup lent c time earlier .state) (accountOf c time earlier) call)
+
+  pub answers-of-history : AnswersOfHistory setup lent
+  answers-of-history c time calls (sample bits) =
+      let s = reached setup lent c time calls .state in
+      subst (λ (k : Config). replyTo s (sampleOf k s bits) .number ≡ numberOfSample c (accountOf c time calls) bits) (sym (config-stays setup lent c time calls))
+      (sample-case c s (accountOf c time calls) bits (agrees c time calls) .0)
+  answers-of-history c time calls (set-call seconds) = set-number (reached setup lent c time calls .config) (reached setup lent c time calls .state) seconds
+  answers-of-history c time calls (reading meter v status seq) =
+      let s = reached setup lent c time calls .state in
+      subst (λ (k : Config). replyTo s (readingOf k s meter v status seq) .number ≡ numberOfReading c meter status seq) (sym (config-stays setup lent c time calls))
+      (reading-number c s meter v status seq)
+  answers-of-history c time calls reset = refl

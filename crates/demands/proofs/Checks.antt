@@ -14,6 +14,7 @@ use Rattle.laws.specs.Masks.{bit, bitAt}
 use Rattle.settings.specs.declared.Config.{Config}
 use Rattle.counting.specs.Filter.{inputAt}
 use Rattle.sampling.specs.Samples.{activeAt}
+use Rattle.recorder.specs.declared.Setup.{Setup}
 use Rattle.demands.specs.Account.{Entry, took, ended, cleared, heard, Sample, runOf, whole, since, feeding}
 use Rattle.demands.specs.Energy.{running, stretchesOf, productOf}
 use Rattle.demands.specs.Demand3.{endsOf, oldestOn, StretchesThatCount, ScaleIsExact, runOnAndOn, HoldIsHarmless, Demand3}
@@ -106,13 +107,13 @@ hold-is-harmless c accepted bits journal i l =
     (held-range (inputAt (c .inputs) i .shortest) (inputAt (c .inputs) i .longest) (runOnAndOn c i journal) (not (activeAt (c .inputs) bits i)) (accepted .bytes i l))
 
 -- all of it
-pub demand-3 : Demand3
-demand-3 =
+pub demand-3 : (setup : Setup) (lent : ℕ) → Demand3 setup lent
+demand-3 setup lent =
     record {
-      open-amount = open-amount;
-      plain-bills = plain-bills;
-      amounts-add-up = amounts-add-up;
-      amounts-are-the-sums = amounts-are-the-sums;
+      open-amount = open-amount setup lent;
+      plain-bills = plain-bills setup lent;
+      amounts-add-up = amounts-add-up setup lent;
+      amounts-are-the-sums = amounts-are-the-sums setup lent;
       stretches-that-count = stretches-that-count;
       scale-is-exact = scale-is-exact;
       hold-is-harmless = hold-is-harmless;

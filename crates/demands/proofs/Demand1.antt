@@ -1,5 +1,5 @@
 -- Demand 1: each call test by test, and what a refusal leaves.
-use mathlib.Core.Path.{_≡_, refl, sym, ap, _∙_}
+use mathlib.Core.Path.{_≡_, refl, sym, ap, ap₂, _∙_}
 use mathlib.Core.Bool.{Bool, true, false, true≢false, not, _&&_, _||_}
 use mathlib.Core.List.{List, [], _∷_, _++_}
 use mathlib.Core.Logic.{_⊎_, inl, inr, ⊎-elim}
@@ -13,7 +13,7 @@ use lib.ListN.{length, getD, take, drop}
 use Rattle.laws.proofs.Tests.{by-test, and-left, and-right, and-both, or-right}
 use Rattle.laws.specs.Any.{any}
 use Rattle.laws.proofs.Any.{any-not}
-use Rattle.laws.specs.Answers.{Answer, given, refused, replyTo}
+use Rattle.laws.specs.Answers.{Answer, given, refused, replyTo, RunReply}
 use Rattle.laws.specs.Broken.{firstBroken}
 use Rattle.laws.specs.Bytes.{le}
 use Rattle.laws.specs.Each.{Each}
@@ -29,13 +29,22 @@ use Rattle.counting.specs.Bills.{fillsUp, bookedOf}
 use Rattle.sampling.specs.Samples.{bookingOf, bookingOn, clockEnd, sampleOf, samplesOf}
 use Rattle.recorder.specs.Clock.{setOf}
 use Rattle.recorder.specs.Meters.{classOf, ageOf, readingOf}
-use Rattle.recorder.specs.Calls.{startReply, sampleReply, setReply, readingReply}
+use Rattle.profile.specs.Records.{slotsFit}
+use Rattle.profile.specs.Room.{legalLength, asAtStart, kept, withRecords}
+use Rattle.profile.specs.Reading.{heldIn, recordReply}
+use Rattle.profile.specs.declared.Profile.{Profile}
+use Rattle.profile.proofs.Places.{legal-is, start-is}
+use Rattle.sampling.specs.Closed.{closedBy, closedIn}
+use Rattle.sampling.specs.declared.Period.{Period}
+use Rattle.recorder.specs.Profile.{recordsOf, closedBySet, moved}
+use Rattle.recorder.specs.Calls.{startReply, sampleReply, readingReply, sampleLent, samplesLent, setLent}
 use Rattle.recorder.specs.declared.Recorder.{Recorder}
+use Rattle.recorder.specs.declared.Setup.{Setup}
 use Rattle.sampling.specs.declared.State.{State}
 use Rattle.registers.specs.Registers.{Group, groups, lookUp, groupOf, replyOf, registerReply}
 use Rattle.registers.proofs.Groups.{none-found}
 use Rattle.registers.proofs.Laws.{refused-leaves}
-use Rattle.demands.specs.Demand1.{Refusal, at, Ordered, numbered, imageRefusals, noDate, sampleRefusals, readingRefusals, registerRefusals, writeRefusals, ageRefusals, RunEnds, NumbersExact, RefusedChangesNothing, Demand1}
+use Rattle.demands.specs.Demand1.{Refusal, at, Ordered, numbered, imageRefusals, noDate, sampleRefusals, readingRefusals, registerRefusals, writeRefusals, ageRefusals, badLength, otherLength, badSlot, recordRefusals, RunEnds, Left, SameLeft, NumbersExact, RefusedChangesNothing, Demand1}
 
 -- a refusal whose condition is a test, and what comes after it
 next : {A : Type 0} (n o : ℕ) {when : Type 0} (rest : List Refusal) (test : Bool) (a : Answer A)
@@ -122,15 +131,6 @@ date-then time rest a is after =
     (λ e. inl (0, (refl, λ m f. true≢false (sym (ap is-given (sym e ∙ f)))), is e))
     (dated-or-not time)
 
-pub starts : (b : List ℕ) (time : ℕ) → Ordered (imageRefusals b ++ (noDate time ∷ [])) (startReply b time .answer)
-starts b time =
-    image-then b (noDate time ∷ []) (startReply b time .answer) (λ n o e. rw e)
-    (λ e. date-then time [] (startReply b time .answer) (λ d. rw (e, d)) (λ m d. done tt _ (rw (e, d))))
-
-pub sets : (r : Recorder) (time : ℕ) → Ordered (noDate time ∷ []) (numbered (setReply r time .number))
-unfolding setOf
-sets r time = date-then time [] (numbered (setReply r time .number)) (λ d. rw d) (λ m d. done tt _ (rw d))
-
 or-left : (a b : Bool) → b ≡ false → (a || b) ≡ true → a ≡ true
 or-left true b f e = refl
 or-left false b f e = sym f ∙ e
@@ -146,6 +146,71 @@ any-some (suc n) p e =
     let l = rest .1 in
     (rest .0, omega arith, rest .2))
 
+-- a length within the limits, and one that is that of the start
+legal-back : (n : ℕ) → 69 ≤ n → n ≤ 65_536 → legalLength n ≡ true
+legal-back n low high = and-both (leb 69 n) (leb n 65_536) (le-leb 69 n low) (le-leb n 65_536 high)
+
+-- 14 where the length of a lent buffer is not that of the start, and what comes after it
+lent-then : {A : Type 0} (p : Profile) (buffer : List ℕ) (rest : List Refusal) (a : Answer A) → (asAtStart p (length buffer) ≡ false → a ≡ refused 14 0)
+    → (asAtStart p (length buffer) ≡ true → Ordered rest a) → Ordered (otherLength p buffer ∷ rest) a
+lent-then p buffer rest a is after =
+    let n = length buffer in
+    next 14 0 rest (not (asAtStart p n)) a
+    (λ t due. true≢false (sym (and-both (legalLength n) _ (legal-back n (due .0) (due .1)) (eq-eqb n (p .length) (due .2))) ∙ not-true _ t))
+    (λ f other.
+    let right = not-false (asAtStart p n) f in
+    let legal = legal-is n (and-left (legalLength n) (eqb n (p .length)) right) in
+    other (legal .0, legal .1, start-is p n right))
+    (λ t. is (not-true _ t))
+    (λ f. after (not-false _ f))
+
+pub starts : (setup : Setup) (lent : ℕ) (b : List ℕ) (time : ℕ)
+    → Ordered (badLength lent ∷ badSlot setup ∷ imageRefusals b ++ (noDate time ∷ [])) (startReply setup lent b time .answer)
+unfolding startReply
+starts setup lent b time =
+    next 14 0 _ (not (legalLength lent)) _
+    (λ t due. true≢false (sym (legal-back lent (due .0) (due .1)) ∙ not-true _ t))
+    (λ f other. other (legal-is lent (not-false _ f)))
+    (λ t. rw (not-true (legalLength lent) t))
+    (λ f.
+    let legal = not-false (legalLength lent) f in
+    next 8 0 _ (not (slotsFit (setup .slots))) _
+    (λ t. let some = any-some 8 _ (not-false _ (not-true (slotsFit (setup .slots)) t)) in (some .0, some .1, ltb-true _ _ (some .2)))
+    (λ g due. true≢false (sym (lt-ltb _ _ (due .2)) ∙ any-not 8 _ (not-true _ (not-false (slotsFit (setup .slots)) g)) (due .0) (due .1)))
+    (λ t. rw (legal, not-true (slotsFit (setup .slots)) t))
+    (λ g.
+    let fit = not-false (slotsFit (setup .slots)) g in
+    image-then b (noDate time ∷ []) _ (λ n o e. rw (legal, fit, e))
+    (λ e. date-then time [] _ (λ d. rw (legal, fit, e, d)) (λ m d. done tt _ (rw (legal, fit, e, d))))))
+
+pub sets : (r : Recorder) (time : ℕ) (buffer : List ℕ) → Ordered (otherLength (r .profile) buffer ∷ noDate time ∷ []) (numbered (setLent r time buffer .reply .number))
+unfolding setLent setOf
+sets r time buffer =
+    lent-then (r .profile) buffer _ _ (λ f. rw f)
+    (λ t. date-then time [] _ (λ d. rw (t, d)) (λ m d. done tt _ (rw (t, d))))
+
+pub records : (p : Profile) (index : ℕ) (buffer result : List ℕ) → Ordered (recordRefusals p index buffer result) (recordReply p index buffer result .answer)
+unfolding recordReply
+records p index buffer result =
+    lent-then p buffer _ _ (λ f. rw f)
+    (λ right.
+    next 15 0 _ (leb (heldIn p) index) _ (λ t. leb-true _ _ t) (λ f l. true≢false (sym (le-leb _ _ l) ∙ f)) (λ t. rw (right, t))
+    (λ f.
+    next 13 0 _ (ltb (length result) 69) _ (λ t. ltb-true _ _ t) (λ g l. true≢false (sym (lt-ltb _ _ l) ∙ g)) (λ t. rw (right, f, t))
+    (λ g. done tt _ (rw (right, f, g)))))
+
+-- a refused request for a record leaves the result
+record-leaves : (p : Profile) (index : ℕ) (buffer result : List ℕ) (n o : ℕ) → recordReply p index buffer result .answer ≡ refused n o → recordReply p index buffer result .result ≡ result
+unfolding recordReply
+record-leaves p index buffer result n o e =
+    by-test (asAtStart p (length buffer))
+    (λ right.
+    by-test (leb (heldIn p) index) (λ t. rw (right, t))
+    (λ f.
+    by-test (ltb (length result) 69) (λ t. rw (right, f, t))
+    (λ g. absurd (true≢false (ap is-given (rw (right, f, g) at e))))))
+    (λ f. rw f)
+
 -- a register is filled
 full-some : (amount due : ℕ) → fillsUp amount due ≡ true → (0 < due) × (999_999_999 < amount + due)
 full-some amount due t =
@@ -156,9 +221,10 @@ full-some amount due t =
 full-is : (amount due : ℕ) → 0 < due → 999_999_999 < amount + due → fillsUp amount due ≡ true
 full-is amount due some past = and-both _ _ (lt-ltb _ _ some) (lt-ltb _ _ past)
 
-pub samples : (r : Recorder) (bits : ℕ) → Ordered (sampleRefusals r bits) (numbered (sampleReply r bits .number))
+-- a sample that is lent a buffer as long as at the start
+samples-right : (r : Recorder) (bits : ℕ) → Ordered (sampleRefusals r bits) (numbered (sampleReply r bits .number))
 unfolding sampleOf bookingOf bookedOf
-samples r bits =
+samples-right r bits =
     next 5 0 _ (clockEnd (r .state)) _
     (λ t.
     let last = eqb (r .state .clock) 4_294_967_295 in
@@ -172,6 +238,10 @@ samples r bits =
     (λ t. let some = any-some 16 _ t in (some .0, some .1, full-some _ _ (some .2) .0, full-some _ _ (some .2) .1))
     (λ g e. true≢false (sym (full-is _ _ (e .2) (e .3)) ∙ any-not 16 _ g (e .0) (e .1)))
     (λ t. rw (f, t)) (λ g. done tt _ (rw (f, g))))
+
+pub samples : (r : Recorder) (bits : ℕ) (buffer : List ℕ) → Ordered (otherLength (r .profile) buffer ∷ sampleRefusals r bits) (numbered (sampleLent r bits buffer .reply .number))
+unfolding sampleLent
+samples r bits buffer = lent-then (r .profile) buffer _ _ (λ f. rw f) (λ t. rw t (samples-right r bits))
 
 pub readings : (r : Recorder) (meter : ℕ) (v : ℤ) (status seq : ℕ)
     → Ordered (readingRefusals r meter status seq) (numbered (readingReply r meter v status seq .number))
@@ -251,51 +321,99 @@ refused-some c s bits n o e z =
     (λ g. let none = rw (f, g) at e in let q : _≡_ {A = ℕ} 0 1 = cc in omega arith))
 
 -- a recorder with another state
-abbrev on : Config → State → Recorder
-on c s = record { config = c; state = s }
+abbrev on : Recorder → State → Recorder
+on r s = record { config = r .config; setup = r .setup; state = s; profile = r .profile }
 
-run-ends : (c : Config) (s : State) (run : List ℕ) → RunEnds (on c s) run
+-- how a run on a state ends
+abbrev Ends : Recorder → List ℕ → RunReply State → Type 0
+Ends r run reply =
+    ((reply .taken ≡ length run) × (reply .number ≡ 0))
+    ⊎ ((reply .taken < length run) × (reply .number ≡ 0 → ⊥) × Ordered (sampleRefusals (on r (reply .after)) (getD run (reply .taken) 0)) (numbered (reply .number)))
+
+run-ends : (r : Recorder) (s : State) (run : List ℕ) → Ends r run (samplesOf (r .config) s run)
 unfolding samplesOf
-run-ends c s [] = inl (refl, refl)
-run-ends c s (bits ∷ more) = go (λ later. run-ends c later more) (sampleOf c s bits) refl
+run-ends r s [] = inl (refl, refl)
+run-ends r s (bits ∷ more) = go (λ later. run-ends r later more) (sampleOf (r .config) s bits) refl
   where
-    go : ((later : State) → RunEnds (on c later) more) → (a : Answer State) → sampleOf c s bits ≡ a → RunEnds (on c s) (bits ∷ more)
+    go : ((later : State) → Ends r more (samplesOf (r .config) later more)) → (a : Answer State) → sampleOf (r .config) s bits ≡ a → Ends r (bits ∷ more) (samplesOf (r .config) s (bits ∷ more))
     go rest (given later) e =
         rw e (⊎-elim (λ all. inl (ap suc (all .0), all .1)) (λ some. inr (omega (arith, some .0), some .1, some .2)) (rest later))
-    go rest (refused n o) e = rw e (inr (omega arith, refused-some c s bits n o e, rw e at (samples (on c s) bits)))
+    go rest (refused n o) e = rw e (inr (omega arith, refused-some (r .config) s bits n o e, rw e at (samples-right (on r s) bits)))
 
-run-leaves : (c : Config) (s : State) (run : List ℕ) → samplesOf c s run .after ≡ samplesOf c s (take (samplesOf c s run .taken) run) .after
-unfolding samplesOf
-run-leaves c s [] = refl
+pub runs : (r : Recorder) (run buffer : List ℕ) → RunEnds r run buffer
+unfolding samplesLent
+runs r run buffer =
+    by-test (asAtStart (r .profile) (length buffer))
+    (λ t. rw t (inr (run-ends r (r .state) run)))
+    (λ f. rw f (inl ((refl, λ right. true≢false (sym (and-both (legalLength (length buffer)) _ (legal-back (length buffer) (right .0) (right .1)) (eq-eqb _ _ (right .2))) ∙ f)), refl, refl)))
+
+-- a run is the run of those samples that it takes: the state, and the periods that it closes
+run-leaves : (c : Config) (s : State) (run : List ℕ) →
+    let taken = take (samplesOf c s run .taken) run in (samplesOf c s run .after ≡ samplesOf c s taken .after) × (closedIn c s run ≡ closedIn c s taken)
+unfolding samplesOf closedIn
+run-leaves c s [] = (refl, refl)
 run-leaves c s (bits ∷ more) = go (λ later. run-leaves c later more) (sampleOf c s bits) refl
   where
-    go : ((later : State) → samplesOf c later more .after ≡ samplesOf c later (take (samplesOf c later more .taken) more) .after)
+    go : ((later : State) → let taken = take (samplesOf c later more .taken) more in (samplesOf c later more .after ≡ samplesOf c later taken .after) × (closedIn c later more ≡ closedIn c later taken))
         → (a : Answer State) → sampleOf c s bits ≡ a
-        → samplesOf c s (bits ∷ more) .after ≡ samplesOf c s (take (samplesOf c s (bits ∷ more) .taken) (bits ∷ more)) .after
-    go rest (given later) e = rw (e, e) (rest later)
-    go rest (refused n o) e = rw e
+        → let taken = take (samplesOf c s (bits ∷ more) .taken) (bits ∷ more) in
+        (samplesOf c s (bits ∷ more) .after ≡ samplesOf c s taken .after) × (closedIn c s (bits ∷ more) ≡ closedIn c s taken)
+    go rest (given later) e = rw (e, e) (rest later .0, ap (λ (periods : List Period). closedBy c (given later) ++ periods) (rest later .1))
+    go rest (refused n o) e = rw e (refl, refl)
+
+runs-leave : (r : Recorder) (run buffer : List ℕ) → SameLeft (samplesLent r run buffer) (samplesLent r (take (samplesLent r run buffer .reply .taken) run) buffer)
+unfolding samplesLent
+runs-leave r run buffer =
+    by-test (asAtStart (r .profile) (length buffer))
+    (λ t.
+    let same = run-leaves (r .config) (r .state) run in
+    rw t (ap₂ (moved r) (same .0) (same .1), ap (λ (periods : List Period). withRecords (kept (r .profile) buffer) (recordsOf (r .setup) periods) .buffer) (same .1)))
+    (λ f. rw f (refl, refl))
 
 pub numbers-exact : NumbersExact
 numbers-exact =
-    record { images = images; starts = starts; samples = samples; runs = λ r run. run-ends (r .config) (r .state) run; sets = sets; readings = readings; registers = registers; ages = ages; writes = writes }
+    record { images = images; starts = starts; samples = samples; runs = runs; sets = sets; readings = readings; registers = registers; records = records; ages = ages; writes = writes }
 
 -- a refused call leaves the state
 reply-leaves : (s : State) (a : Answer State) → (replyTo s a .number ≡ 0 → ⊥) → replyTo s a .after ≡ s
 reply-leaves s (given later) h = absurd (h refl)
 reply-leaves s (refused n o) h = refl
 
--- a recorder with a state put in
-abbrev beside-state : Recorder → State → Recorder
-beside-state r s = record { config = r .config; state = s }
+-- a refused sample leaves the recorder and the buffer
+sample-leaves : (r : Recorder) (bits : ℕ) (buffer : List ℕ) → (sampleLent r bits buffer .reply .number ≡ 0 → ⊥) → Left r buffer (sampleLent r bits buffer)
+unfolding sampleLent
+sample-leaves r bits buffer h =
+    by-test (asAtStart (r .profile) (length buffer))
+    (λ t. rw t (go (sampleOf (r .config) (r .state) bits) (rw t at h)))
+    (λ f. rw f (refl, refl))
+  where
+    go : (a : Answer State) → (replyTo (r .state) a .number ≡ 0 → ⊥)
+        → (moved r (replyTo (r .state) a .after) (closedBy (r .config) a) ≡ r) × (withRecords (kept (r .profile) buffer) (recordsOf (r .setup) (closedBy (r .config) a)) .buffer ≡ buffer)
+    go (given later) some = absurd (some refl)
+    go (refused n o) some = (refl, refl)
+
+-- and so does a refused clock set
+set-leaves : (r : Recorder) (time : ℕ) (buffer : List ℕ) → (setLent r time buffer .reply .number ≡ 0 → ⊥) → Left r buffer (setLent r time buffer)
+unfolding setLent
+set-leaves r time buffer h =
+    by-test (asAtStart (r .profile) (length buffer))
+    (λ t. rw t (go (setOf (r .config) (r .state) time) (rw t at h)))
+    (λ f. rw f (refl, refl))
+  where
+    go : (a : Answer State) → (replyTo (r .state) a .number ≡ 0 → ⊥)
+        → (moved r (replyTo (r .state) a .after) (closedBySet a) ≡ r) × (withRecords (kept (r .profile) buffer) (recordsOf (r .setup) (closedBySet a)) .buffer ≡ buffer)
+    go (given later) some = absurd (some refl)
+    go (refused n o) some = (refl, refl)
 
 pub refused-changes-nothing : RefusedChangesNothing
 unfolding afterWrite
 refused-changes-nothing =
     record {
-      samples = λ r bits h. ap (beside-state r) (reply-leaves (r .state) (sampleOf (r .config) (r .state) bits) h);
-      runs = λ r run. ap (beside-state r) (run-leaves (r .config) (r .state) run);
-      sets = λ r time h. ap (beside-state r) (reply-leaves (r .state) (setOf (r .config) (r .state) time) h);
-      readings = λ r meter v status seq h. ap (beside-state r) (reply-leaves (r .state) (readingOf (r .config) (r .state) meter v status seq) h);
+      samples = sample-leaves;
+      runs = runs-leave;
+      sets = set-leaves;
+      records = record-leaves;
+      readings = λ r meter v status seq h. ap (on r) (reply-leaves (r .state) (readingOf (r .config) (r .state) meter v status seq) h);
       registers = refused-leaves;
       writes = λ c buffer n o e. rw e;
     }

@@ -29,7 +29,9 @@ use Rattle.sampling.specs.Periods.{multiple}
 use Rattle.sampling.specs.Samples.{activeAt}
 use Rattle.recorder.specs.History.{reading}
 use Rattle.recorder.specs.Laws.{Good}
+use Rattle.recorder.specs.declared.Setup.{Setup}
 use Rattle.demands.specs.Account.{Account, booksAt, feeding, amountOf, overfull, numberOfSample, numberOfReading, stepped, counted, withCall, accountOf}
+use Rattle.demands.specs.Starts.{Accepted}
 use Rattle.demands.specs.Energy.{productOf}
 use Rattle.demands.specs.State.{valueOf, stateIn}
 use Rattle.demands.specs.Shown.{awakeIn, fleetIn}
@@ -60,6 +62,9 @@ runs-bytes (suc (suc (suc i))) l = unused 13 i
     unused (suc n) zero = omega arith
     unused (suc n) (suc i) = unused n i
 
+pub two-accepted : Accepted twoMakers
+two-accepted = record { good = is-good; bytes = runs-bytes }
+
 -- the first eight registers are in use
 in-use : (j : ℕ) → j < 8 → InUse twoMakers j
 in-use zero l = (omega arith, omega arith)
@@ -79,21 +84,21 @@ first-two (suc zero) l e = ((l, omega arith), refl)
 first-two (suc (suc j)) l e = absurd (not-suc-le-zero (le-of-suc-le-suc (le-of-suc-le-suc (ltb-true (suc (suc j)) 2 e))))
 
 -- the recorder's amounts are those of the journal
-opened-as : table 8 (λ j. openOf twoMakers start j calls) ≡ table 8 (λ j. amountOf twoMakers j (account .journal))
-opened-as = table-cong 8 _ _ (λ j l. open-is twoMakers start calls j (in-use j l) ∙ ap (λ (a : Account). amountOf twoMakers j (a .journal)) happened)
+opened-as : (setup : Setup) (lent : ℕ) → table 8 (λ j. openOf setup lent twoMakers start j calls) ≡ table 8 (λ j. amountOf twoMakers j (account .journal))
+opened-as setup lent = table-cong 8 _ _ (λ j l. open-is setup lent twoMakers start calls j (in-use j l) ∙ ap (λ (a : Account). amountOf twoMakers j (a .journal)) happened)
 
-closed-as : table 8 (λ j. closedOf twoMakers start j calls) ≡ table 8 (λ j. closedIn twoMakers j (account .journal))
-closed-as = table-cong 8 _ _ (λ j l. closed-is twoMakers start calls j (in-use j l) ∙ ap (λ (a : Account). closedIn twoMakers j (a .journal)) happened)
+closed-as : (setup : Setup) (lent : ℕ) → table 8 (λ j. closedOf setup lent twoMakers start j calls) ≡ table 8 (λ j. closedIn twoMakers j (account .journal))
+closed-as setup lent = table-cong 8 _ _ (λ j l. closed-is setup lent twoMakers start calls j (in-use j l) ∙ ap (λ (a : Account). closedIn twoMakers j (a .journal)) happened)
 
-pub numbers : Numbers
+pub numbers : (setup : Setup) (lent : ℕ) → Numbers setup lent
 unfolding first any total span maskOf bitAt table monthLength yearLength yearDay momentOf dailyActive firstHoliday columnOn referenceAt weeklyActive inSeason seasonActive applies inForce forceMap forceOf sumOf multiple activeAt booksAt feeding amountOf overfull numberOfSample numberOfReading stepped counted withCall accountOf productOf totalℤ valueOf stateIn awakeIn fleetIn
-numbers =
+numbers setup lent =
     record {
-      accepted = record { good = is-good; bytes = runs-bytes };
+      accepted = two-accepted;
       happened = happened;
-      not-fitted = answers-of-history twoMakers start calls (reading 4 (pos 5) 0 0);
-      opened = opened-as;
-      closed = closed-as;
+      not-fitted = answers-of-history setup lent twoMakers start calls (reading 4 (pos 5) 0 0);
+      opened = opened-as setup lent;
+      closed = closed-as setup lent;
       inputs = refl;
       scales = refl;
       energy = refl;
@@ -106,14 +111,14 @@ numbers =
       fleet = refl;
     }
 
-pub needed : Needed
+pub needed : (setup : Setup) (lent : ℕ) → Needed setup lent
 unfolding first any total span maskOf bitAt table monthLength yearLength yearDay momentOf dailyActive firstHoliday columnOn referenceAt weeklyActive inSeason seasonActive applies inForce forceMap forceOf sumOf multiple activeAt booksAt feeding amountOf overfull numberOfSample numberOfReading stepped counted withCall accountOf productOf
-needed =
+needed setup lent =
     record {
-      few = open-is twoMakers start byDay 2 (in-use 2 (omega arith));
+      few = open-is setup lent twoMakers start byDay 2 (in-use 2 (omega arith));
       owed = refl;
       one-stretch = refl;
-      many = open-is twoMakers start dayAndNightThrice 4 (in-use 4 (omega arith));
+      many = open-is setup lent twoMakers start dayAndNightThrice 4 (in-use 4 (omega arith));
       less = refl;
       three-stretches = refl;
     }

@@ -30,7 +30,8 @@ use Rattle.sampling.specs.Periods.{multiple}
 use Rattle.sampling.specs.Samples.{activeAt}
 use Rattle.recorder.specs.History.{sample, reset}
 use Rattle.recorder.specs.Laws.{Good}
-use Rattle.recorder.specs.declared.Recorder.{Recorder}
+use Rattle.sampling.specs.declared.State.{State}
+use Rattle.recorder.specs.declared.Setup.{Setup}
 use Rattle.demands.specs.Account.{took, Account, Ended, runOf, whole, inPeriod, unitsIn, periodsOf, always, impulsesOf, inUse, booksAt, feeding, amountOf, nextSample, dueTo, overfull, numberOfSample, stepped, counted, withCall, accountOf}
 use Rattle.demands.specs.Starts.{Accepted}
 use Rattle.demands.specs.State.{valueOf, lastPeriod, stateIn}
@@ -39,7 +40,7 @@ use Rattle.demands.specs.Demand3.{closedOf, InUse}
 use Rattle.demands.specs.Example.{fullMaker, pulses, nearlyFull, Filled}
 use Rattle.demands.proofs.Sums.{added, sum-added, added-cong, added-zero}
 use Rattle.demands.proofs.Agrees.{answers-of-history}
-use Rattle.demands.proofs.Levels.{state-of-history}
+use Rattle.demands.proofs.Levels.{state-is}
 use Rattle.demands.proofs.Demand3.{open-is, noted-is}
 
 -- the input of the example
@@ -290,10 +291,10 @@ module _ (c : Config) (h : Big c) where
   at-anew = down 6_249 0 _ (takes-down 6_249 0 _ (omega arith) (omega arith) at-reset) at-reset
 
 -- nothing is closed before the first reset
-none-closed : (c : Config) (n : ℕ) → closedOf c 0 0 (pulses n) ≡ 0
+none-closed : (setup : Setup) (lent : ℕ) (c : Config) (n : ℕ) → closedOf setup lent c 0 0 (pulses n) ≡ 0
 unfolding pulses
-none-closed c zero = refl
-none-closed c (suc n) = none-closed c n
+none-closed setup lent c zero = refl
+none-closed setup lent c (suc n) = none-closed setup lent c n
 
 -- The example's configuration
 
@@ -329,24 +330,24 @@ minute-values : lastPeriod fullMaker (record { state = 2; stamp = 120; units = t
 unfolding table valueOf sumOf total totalℤ bitAt
 minute-values = refl
 
-last-minute : reached fullMaker 0 nearlyFull .state .closed
+last-minute : (setup : Setup) (lent : ℕ) → reached setup lent fullMaker 0 nearlyFull .state .closed
     ≡ record { state = 2; stamp = 120; values = pos 30_000_000 ∷ pos 480_000_000 ∷ negsuc 479_999_999 ∷ replicate 13 (pos 0) }
 unfolding stateIn
-last-minute =
-    ap (λ (r : Recorder). r .state .closed) (state-of-history fullMaker full-accepted 0 nearlyFull)
+last-minute setup lent =
+    ap (λ (s : State). s .closed) (state-is setup lent fullMaker full-good 0 nearlyFull)
     ∙ (ap (lastPeriod fullMaker) (at-full fullMaker full-big .period (omega arith) .1) ∙ minute-values)
 
-pub filled : Filled
-filled =
+pub filled : (setup : Setup) (lent : ℕ) → Filled setup lent
+filled setup lent =
     let c = fullMaker in
     let h = full-big in
     let calls = sample 0 ∷ nearlyFull in
     record {
       accepted = full-accepted;
-      opened = open-is c 0 nearlyFull 0 full-used ∙ at-full c h .amount;
-      refused = answers-of-history c 0 nearlyFull (sample 0) ∙ full-number c h;
+      opened = open-is setup lent c 0 nearlyFull 0 full-used ∙ at-full c h .amount;
+      refused = answers-of-history setup lent c 0 nearlyFull (sample 0) ∙ full-number c h;
       impulses = λ i l. ap (λ (a : Account). impulsesOf always i (whole c (a .journal))) (unchanged c h) ∙ at-full c h .counts i l;
-      closed = omega (arith, none-closed c 6_249, noted-is c 0 calls 0 full-used, ap (λ (a : Account). amountOf c 0 (a .journal)) (unchanged c h), at-full c h .amount);
-      anew = open-is c 0 (sample 0 ∷ reset ∷ calls) 0 full-used ∙ at-anew c h .amount;
-      whole-period = last-minute;
+      closed = omega (arith, none-closed setup lent c 6_249, noted-is setup lent c 0 calls 0 full-used, ap (λ (a : Account). amountOf c 0 (a .journal)) (unchanged c h), at-full c h .amount);
+      anew = open-is setup lent c 0 (sample 0 ∷ reset ∷ calls) 0 full-used ∙ at-anew c h .amount;
+      whole-period = last-minute setup lent;
     }

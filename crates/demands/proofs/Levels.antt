@@ -1,5 +1,5 @@
 -- The units of the running period and the last closed period are what the history says, under a configuration that the image check accepts; and with them the whole state.
-use mathlib.Core.Path.{_≡_, refl, sym, ap, ap₂, _∙_}
+use mathlib.Core.Path.{_≡_, refl, sym, ap, _∙_}
 use mathlib.Core.Bool.{Bool, true, false, _&&_, _||_}
 use mathlib.Core.List.{List, [], _∷_}
 use mathlib.Core.Logic.{⊎-elim}
@@ -29,6 +29,8 @@ use Rattle.recorder.specs.Meters.{readingOf}
 use Rattle.recorder.specs.Calls.{freshState}
 use Rattle.recorder.specs.History.{Call, sample, set as set-call, reading, reset}
 use Rattle.recorder.specs.Laws.{Good}
+use Rattle.profile.specs.declared.Profile.{Profile}
+use Rattle.recorder.specs.declared.Setup.{Setup}
 use Rattle.counting.specs.declared.Line.{Line}
 use Rattle.counting.specs.declared.Bill.{Bill}
 use Rattle.sampling.specs.declared.Meter.{Meter}
@@ -36,7 +38,7 @@ use Rattle.sampling.specs.declared.Period.{Period}
 use Rattle.sampling.specs.declared.State.{State}
 use Rattle.calendar.proofs.Moments.{dated-or-not}
 use Rattle.counting.proofs.Lines.{passed, brings, passed-units}
-use Rattle.recorder.proofs.Sound.{cleared-at, config-stays, reached-is-sound}
+use Rattle.recorder.proofs.Sound.{cleared-at, start-stays, reached-is-sound}
 use Rattle.recorder.proofs.Bounded.{hold-never-acts}
 use Rattle.demands.specs.Account.{Entry, ended, Account, always, impulsesOf, unitsIn, whole, inPeriod, periodsOf, lastReading, stepped, counted, withCall, numberOfReading, accountOf}
 use Rattle.demands.specs.State.{lineIn, billIn, meterIn, valueOf, lastPeriod, stateIn}
@@ -44,6 +46,7 @@ use Rattle.demands.specs.Demand2.{reached, StateOfHistory}
 use Rattle.demands.proofs.Inputs.{no-numerator}
 use Rattle.demands.proofs.Units.{leftOver}
 use Rattle.demands.proofs.Keeps.{bookedState, line-after}
+use Rattle.demands.proofs.Closings.{profile-is}
 use Rattle.demands.proofs.Agrees.{Agrees, same-units, longer, booked-agrees, hundredth, sample-case, stateAfter, by-calls, agrees}
 
 -- units of the running period, and the last closed period
@@ -195,11 +198,6 @@ call-closes c s a (set-call seconds) good both free old = set-closes c s a secon
 call-closes c s a (reading meter v status seq) good both free old = reading-closes c s a meter v status seq old
 call-closes c s a reset good both free old = reset-closes c s a old
 
-closes : (c : Config) → Good c → (time : ℕ) (calls : List Call) → Closes c (reached c time calls .state) (accountOf c time calls)
-closes c good time =
-    by-calls c time (Closes c) (fresh-closes c time)
-    (λ earlier call. call-closes c (reached c time earlier .state) (accountOf c time earlier) call good (agrees c time earlier) (hold-never-acts c good time earlier))
-
 -- The whole state
 
 -- what whole denominators leave, also of an input that is not fitted: it has six zeros
@@ -234,19 +232,34 @@ line-is c good s a both old i l =
 list-is : {A : Type 0} (n : ℕ) (xs : List A) (d : A) (f : ℕ → A) → length xs ≡ n → ((i : ℕ) → i < n → getD xs i d ≡ f i) → xs ≡ table n f
 list-is n xs d f long each = sym (table-self n xs d long) ∙ table-cong n _ f each
 
-pub state-is : (c : Config) → Good c → (time : ℕ) (calls : List Call) → reached c time calls .state ≡ stateIn c (accountOf c time calls)
-unfolding stateIn
-state-is c good time calls =
-    let s = reached c time calls .state in
-    let a = accountOf c time calls in
-    let both = agrees c time calls in
-    let old = closes c good time calls in
-    let sound = reached-is-sound c time calls in
-    let lines : s .lines ≡ table 16 (lineIn c (a .journal)) = list-is 16 (s .lines) _ _ (sound .lines .sixteen) (line-is c good s a both old) in
-    let bills : s .bills ≡ table 16 (billIn c (a .journal)) = list-is 16 (s .bills) _ _ (sound .bills .sixteen) (both .bills) in
-    let meters : s .meters ≡ table 32 (λ i. meterIn (lastReading (a .journal) i)) = list-is 32 (s .meters) _ _ (sound .meters) (both .meters) in
-    state-by s _ _ _ _ _ _ _ (both .clock) (both .samples) (both .first) lines bills meters (old .closed)
+-- A start with any chosen slots and a buffer of any length
+module _ (setup : Setup) (lent : ℕ) where
+  closes : (c : Config) → Good c → (time : ℕ) (calls : List Call) → Closes c (reached setup lent c time calls .state) (accountOf c time calls)
+  closes c good time =
+      by-calls setup lent c time (Closes c) (fresh-closes c time)
+      (λ earlier call. call-closes c (reached setup lent c time earlier .state) (accountOf c time earlier) call good (agrees setup lent c time earlier) (hold-never-acts setup lent c good time earlier))
 
-pub state-of-history : StateOfHistory
-state-of-history c accepted time calls =
-    ap₂ (λ (k : Config) (s : State). record { config = k; state = s }) (config-stays c time calls) (state-is c (accepted .good) time calls)
+  pub state-is : (c : Config) → Good c → (time : ℕ) (calls : List Call) → reached setup lent c time calls .state ≡ stateIn c (accountOf c time calls)
+  unfolding stateIn
+  state-is c good time calls =
+      let s = reached setup lent c time calls .state in
+      let a = accountOf c time calls in
+      let both = agrees setup lent c time calls in
+      let old = closes c good time calls in
+      let sound = reached-is-sound setup lent c time calls in
+      let lines : s .lines ≡ table 16 (lineIn c (a .journal)) = list-is 16 (s .lines) _ _ (sound .lines .sixteen) (line-is c good s a both old) in
+      let bills : s .bills ≡ table 16 (billIn c (a .journal)) = list-is 16 (s .bills) _ _ (sound .bills .sixteen) (both .bills) in
+      let meters : s .meters ≡ table 32 (λ i. meterIn (lastReading (a .journal) i)) = list-is 32 (s .meters) _ _ (sound .meters) (both .meters) in
+      state-by s _ _ _ _ _ _ _ (both .clock) (both .samples) (both .first) lines bills meters (old .closed)
+
+  -- the whole recorder, but for where its records stand
+  pub recorder-is : (c : Config) → Good c → (time : ℕ) (calls : List Call)
+      → reached setup lent c time calls ≡ record { config = c; setup = setup; state = stateIn c (accountOf c time calls); profile = reached setup lent c time calls .profile }
+  recorder-is c good time calls =
+      let stays = start-stays setup lent c time calls in
+      (λ i. record { config = stays .0 i; setup = stays .1 i; state = state-is c good time calls i; profile = reached setup lent c time calls .profile })
+
+  pub state-of-history : StateOfHistory setup lent
+  state-of-history c good some time calls =
+      recorder-is c (good .good) time calls
+      ∙ ap (λ (p : Profile). record { config = c; setup = setup; state = stateIn c (accountOf c time calls); profile = p }) (profile-is setup lent c some time calls)

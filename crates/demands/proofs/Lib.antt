@@ -6,6 +6,7 @@ pub mod Rounding
 pub mod Starts
 pub mod Keeps
 pub mod Agrees
+pub mod Closings
 pub mod Levels
 pub mod Bills
 pub mod Demand1
@@ -14,6 +15,8 @@ pub mod Checks
 pub mod Table
 pub mod Shown
 pub mod Demand2
+pub mod Profile
 pub mod Example
+pub mod ProfileCases
 pub mod Full
 pub mod Tightness

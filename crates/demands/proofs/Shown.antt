@@ -20,7 +20,9 @@ use Rattle.laws.proofs.Total.{total-cong}
 use Rattle.settings.specs.declared.Config.{Config}
 use Rattle.recorder.specs.Meters.{classOf}
 use Rattle.sampling.specs.declared.Meter.{Meter}
+use Rattle.profile.specs.declared.Profile.{Profile}
 use Rattle.recorder.specs.declared.Recorder.{Recorder}
+use Rattle.recorder.specs.declared.Setup.{Setup}
 use Rattle.registers.specs.Fleet.{meterAt, meterClass, classAt, hasClass, hasAny, awakeValue, awakeSum, classesOf, fleetOf}
 use Rattle.registers.specs.Contents.{statusShown, serialBytes, meterBytes, mapBytes, resultBytes, dailyBytes, weeklyBytes, level9Bytes, levelBytes, billBytes, filterBytes, fleetBytes, clockBytes}
 use Rattle.registers.specs.Registers.{Group, groups, lookUp, groupOf, registersIn, registersOf, contentsOf, replyOf, registerReply}
@@ -29,7 +31,7 @@ use Rattle.demands.specs.Account.{Entry, took, ended, cleared, heard, Ac
 use Rattle.demands.specs.State.{lineIn, billIn, meterIn, stateIn}
 use Rattle.demands.specs.Shown.{isNever, isStale, isInvalid, awakeIn, fleetIn, serialShown, billShown, shown}
 use Rattle.demands.specs.Demand2.{reached, RegistersOfHistory, FleetOfHistory, InvalidMark, AwakeUnmarked}
-use Rattle.demands.proofs.Levels.{state-of-history}
+use Rattle.demands.proofs.Levels.{recorder-is}
 
 -- Classes
 
@@ -73,9 +75,9 @@ totalℤ-cong (suc n) f g h = rw (h n (le-refl (suc n)), totalℤ-cong n f g (λ
 
 -- The recorder that the account spells out
 
-module _ (c : Config) (a : Account) where
+module _ (setup : Setup) (profile : Profile) (c : Config) (a : Account) where
   abbrev spelled : Recorder
-  spelled = record { config = c; state = stateIn c a }
+  spelled = record { config = c; setup = setup; state = stateIn c a; profile = profile }
 
   abbrev limit : ℕ → ℕ
   limit i = getD (c .limits) i 0
@@ -188,13 +190,16 @@ in-group r group i buffer n = go (groupOf group)
         (λ t. let none : _≡_ {A = Answer ℕ} (refused 12 0) (given n) = rw t at e in let q : _≡_ {A = ℕ} 0 1 = cc in absurd (omega arith))
         (λ f. leb-false (g .registers) i f)
 
-pub registers-of-history : RegistersOfHistory
-registers-of-history c accepted time calls group i buffer n e =
-    let a = accountOf c time calls in
-    let r = reached c time calls in
-    given-first r group i buffer n e .2
-    ∙ ap (λ (bytes : List ℕ). bytes ++ drop n buffer)
-    (ap (λ (x : Recorder). contentsOf x group i) (state-of-history c accepted time calls) ∙ contents-are c a group i (in-group r group i buffer n e))
+-- A start with any chosen slots and a buffer of any length
+module _ (setup : Setup) (lent : ℕ) where
+  pub registers-of-history : RegistersOfHistory setup lent
+  registers-of-history c accepted time calls group i buffer n e =
+      let a = accountOf c time calls in
+      let r = reached setup lent c time calls in
+      given-first r group i buffer n e .2
+      ∙ ap (λ (bytes : List ℕ). bytes ++ drop n buffer)
+      (ap (λ (x : Recorder). contentsOf x group i) (recorder-is setup lent c (accepted .good) time calls) ∙ contents-are setup (r .profile) c a group i (in-group r group i buffer n e))
 
-pub fleet-of-history : FleetOfHistory
-fleet-of-history c accepted time calls = ap fleetOf (state-of-history c accepted time calls) ∙ fleet-is c (accountOf c time calls)
+  pub fleet-of-history : FleetOfHistory setup lent
+  fleet-of-history c accepted time calls =
+      ap fleetOf (recorder-is setup lent c (accepted .good) time calls) ∙ fleet-is setup (reached setup lent c time calls .profile) c (accountOf c time calls)

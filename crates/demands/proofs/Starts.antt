@@ -1,9 +1,13 @@
 -- A start call that is answered without a refusal: its configuration is accepted, and its recorder is the fresh start of a history.
 use mathlib.Core.Path.{_≡_, refl}
+use mathlib.Core.Bool.{true}
 use mathlib.Core.List.{List, [], _∷_, _++_}
 use Prim.Native.Nat.{ℕ, zero, suc, _*_, _<_}
 use native.Mathlib.Omega.{arith}
+use borrow.Author.Tests.{ltb-false, not-true}
 use lib.ListN.{getD, drop}
+use Rattle.laws.proofs.Tests.{by-test}
+use Rattle.laws.proofs.Any.{any-not}
 use Rattle.laws.specs.Answers.{Answer, given, refused}
 use Rattle.laws.specs.Bytes.{Bytes, le}
 use Rattle.laws.proofs.Bytes.{bytes-drop}
@@ -16,9 +20,12 @@ use Rattle.image.specs.Image.{decode}
 use Rattle.image.specs.Answers.{imageAnswer, imageConfig}
 use Rattle.settings.specs.declared.Input.{Input}
 use Rattle.image.proofs.Found.{read-holds}
-use Rattle.recorder.specs.Calls.{startDated, startFrom}
-use Rattle.recorder.specs.History.{freshStart}
-use Rattle.demands.specs.Starts.{Accepted, StartIsFresh}
+use Rattle.profile.specs.Records.{slotsFit}
+use Rattle.profile.specs.Room.{legalLength}
+use Rattle.profile.proofs.Places.{legal-is}
+use Rattle.recorder.specs.Calls.{freshStart, startDated, startFrom, startReply}
+use Rattle.recorder.specs.declared.Setup.{Setup}
+use Rattle.demands.specs.Starts.{Accepted, SlotsFit, StartIsFresh}
 
 -- the longest run is a byte
 abbrev ByteRun : Input → Type 0
@@ -45,15 +52,31 @@ unfolding imageConfig decode
 image-accepted b bytes e =
     record { good = read-holds b e; bytes = λ i l. rw e (read-runs (drop 6 b) (bytes-drop 6 b bytes) 16 i) }
 
+-- slots of which none is above 15
+slots-fit : (setup : Setup) → slotsFit (setup .slots) ≡ true → SlotsFit setup
+slots-fit setup e k l = let below = ltb-false 15 (getD (setup .slots) k 0) (any-not 8 _ (not-true _ e) k l) in omega arith
+
 pub start-is-fresh : StartIsFresh
-start-is-fresh b bytes time = go (imageAnswer b) refl
+unfolding startReply
+start-is-fresh setup lent b bytes time e =
+    by-test (legalLength lent)
+    (λ legal.
+    by-test (slotsFit (setup .slots))
+    (λ fit.
+    let whole = go (imageAnswer b) refl (rw (legal, fit) at e) in
+    (legal-is lent legal, slots-fit setup fit, whole .0, rw (legal, fit) (whole .1)))
+    (λ f. no-start 8 (rw (legal, f) at e)))
+    (λ f. no-start 14 (rw f at e))
   where
-    dated : (m : Answer Moment) → startDated m (imageConfig b) time .answer ≡ given tt
-        → startDated m (imageConfig b) time .recorder ≡ freshStart (imageConfig b) time
+    no-start : {P : Type 0} (n : ℕ) → _≡_ {A = Answer (Unit {0})} (refused n 0) (given tt) → P
+    no-start n e = let z : _≡_ {A = ℕ} 0 1 = cc in absurd (omega arith)
+
+    dated : (m : Answer Moment) → startDated m setup lent (imageConfig b) time .answer ≡ given tt
+        → startDated m setup lent (imageConfig b) time .recorder ≡ freshStart setup lent (imageConfig b) time
     dated (given m) e = refl
     dated (refused n offset) e = let z : _≡_ {A = ℕ} 0 1 = cc in absurd (omega arith)
 
-    go : (a : Answer (Unit {0})) → imageAnswer b ≡ a → startFrom a (imageConfig b) time .answer ≡ given tt
-        → Accepted (imageConfig b) × (startFrom a (imageConfig b) time .recorder ≡ freshStart (imageConfig b) time)
+    go : (a : Answer (Unit {0})) → imageAnswer b ≡ a → startFrom a setup lent (imageConfig b) time .answer ≡ given tt
+        → Accepted (imageConfig b) × (startFrom a setup lent (imageConfig b) time .recorder ≡ freshStart setup lent (imageConfig b) time)
     go (given u) i e = (image-accepted b bytes i, dated (momentOf time) e)
     go (refused n offset) i e = let z : _≡_ {A = ℕ} 0 1 = cc in absurd (omega arith)

@@ -5,6 +5,7 @@ use Rattle.settings.proofs.Unique as settings
 use Rattle.image.proofs.Unique as image
 use Rattle.counting.proofs.Unique as counting
 use Rattle.sampling.proofs.Unique as sampling
+use Rattle.profile.proofs.Unique as profile
 use Rattle.recorder.proofs.Unique as recorder
 use Rattle.registers.proofs.Unique as registers
 use Rattle.lines.proofs.Unique as lines
@@ -48,17 +49,22 @@ tight =
       counting-put-amounts = (counting.put-amounts, λ κs args. tt);
       counting-level9 = (counting.level9, λ κs args. tt);
       sampling-take = (sampling.take-once, λ κs args. tt);
-      sampling-run = (sampling.run-once, λ κs args. tt);
-      sampling-one = (sampling.one-once, λ κs args. tt);
       sampling-close = (sampling.close, λ κs args. tt);
-      sampling-cleared = (sampling.cleared, λ κs args. tt);
-      sampling-close-period = (sampling.close-period, λ κs args. tt);
+      sampling-close-with = (sampling.close-with, λ κs args. tt);
+      profile-legal-length = (profile.legal-length, λ κs args. tt);
+      profile-as-at-start = (profile.as-at-start, λ κs args. tt);
+      profile-put = (profile.put, (profile.put-exit, λ κs args. tt));
+      profile-read = (profile.read, (profile.read-exit, λ κs args. tt));
+      profile-bits64 = (profile.bits64, λ κs args. tt);
+      profile-slots-fit = (profile.slots-fit, λ κs args. tt);
+      profile-choose = (profile.choose, λ κs args. tt);
       recorder-start = (recorder.start-once, λ κs args. tt);
-      recorder-sample = (recorder.sample-once, λ κs args. tt);
-      recorder-samples = (recorder.samples-once, λ κs args. tt);
-      recorder-set-clock = (recorder.set-clock-once, λ κs args. tt);
+      recorder-sample = (recorder.sample-once, (recorder.sample-exit, λ κs args. tt));
+      recorder-samples = (recorder.samples-once, (recorder.samples-exit, λ κs args. tt));
+      recorder-set-clock = (recorder.set-clock-once, (recorder.set-clock-exit, λ κs args. tt));
       recorder-reading = (recorder.reading-once, λ κs args. tt);
       recorder-reset-bills = (recorder.reset-bills-once, λ κs args. tt);
+      recorder-read-record = (recorder.read-record-once, (recorder.read-record-exit, λ κs args. tt));
       recorder-age-class = (recorder.age-class-once, λ κs args. tt);
       recorder-age-answer = (recorder.age-answer-once, λ κs args. tt);
       registers-read-register = (registers.read-register-once, (registers.read-register-exit, λ κs args. tt));
@@ -71,6 +77,7 @@ tight =
       answers-set-line = (answers.set-line, λ κs args. tt);
       answers-reading-line = (answers.reading-line, λ κs args. tt);
       answers-register-line = (answers.register-line, λ κs args. tt);
+      answers-record-line = (answers.record-line, λ κs args. tt);
       answers-image-part = (answers.image-part, λ κs args. tt);
       answers-date-line = (answers.date-line, λ κs args. tt);
       answers-fleet-line = (answers.fleet-line, λ κs args. tt);

@@ -9,7 +9,7 @@ use lib.Dec.{eqb}
 use lib.IntN.{ℤ}
 use lib.ListN.{length, getD, take, drop}
 use Rattle.laws.specs.If.{if_then_else_}
-use Rattle.laws.specs.Answers.{Answer, given, refused}
+use Rattle.laws.specs.Answers.{Answer, given, refused, Reply, RunReply}
 use Rattle.laws.specs.Bytes.{le}
 use Rattle.laws.specs.Each.{Each}
 use Rattle.calendar.specs.Moments.{momentOf}
@@ -24,8 +24,12 @@ use Rattle.counting.specs.Units.{creditsOf}
 use Rattle.counting.specs.Bills.{registerAt, billAt, sumsOf, dueOf}
 use Rattle.sampling.specs.Samples.{activeLines}
 use Rattle.recorder.specs.Meters.{ageOf}
-use Rattle.recorder.specs.Calls.{startReply, sampleReply, samplesReply, setReply, readingReply}
+use Rattle.recorder.specs.Profile.{WithBuffer}
+use Rattle.recorder.specs.Calls.{startReply, readingReply, sampleLent, samplesLent, setLent}
+use Rattle.profile.specs.Reading.{heldIn, recordReply}
+use Rattle.profile.specs.declared.Profile.{Profile}
 use Rattle.recorder.specs.declared.Recorder.{Recorder}
+use Rattle.recorder.specs.declared.Setup.{Setup}
 use Rattle.registers.specs.Registers.{Group, groups, groupOf, registersOf, fitted, registerReply}
 
 -- a refusal of document 01's table: its number, and when it is due, with which offset
@@ -106,32 +110,65 @@ writeRefusals c buffer = record { number = 4; due = FirstBadAt (sections c) } �
 abbrev pub ageRefusals : ℕ → ℕ → List Refusal
 ageRefusals limit status = at 8 0 (limit ≡ 0) ∷ at 10 0 (7 < status) ∷ []
 
--- a run of samples: all were taken, or the first that was not is refused with its own number, on the recorder that the others left
-abbrev pub RunEnds : Recorder → List ℕ → Type 0
-RunEnds r run =
-    let reply = samplesReply r run in
-    ((reply .taken ≡ length run) × (reply .number ≡ 0))
+-- "14 PROFILE BUFFER, for a length outside those limits", of a start
+abbrev pub badLength : ℕ → Refusal
+badLength n = at 14 0 ((69 ≤ n) × (n ≤ 65_536) → ⊥)
+
+-- "or other than at the start", of each other call that is lent the buffer
+abbrev pub otherLength : Profile → List ℕ → Refusal
+otherLength p buffer = at 14 0 ((69 ≤ length buffer) × (length buffer ≤ 65_536) × (length buffer ≡ p .length) → ⊥)
+
+-- "8 NOT FITTED, for a chosen slot above 15"
+abbrev pub badSlot : Setup → Refusal
+badSlot setup = at 8 0 ((k : ℕ) × (k < 8) × (15 < getD (setup .slots) k 0))
+
+-- "15 NO RECORD, for an index not held, then 13 for a result below 69 bytes"
+abbrev pub recordRefusals : Profile → ℕ → List ℕ → List ℕ → List Refusal
+recordRefusals p index buffer result = otherLength p buffer ∷ at 15 0 (heldIn p ≤ index) ∷ at 13 0 (length result < 69) ∷ []
+
+-- a run of samples: 14 where the buffer has another length; else all were taken, or the first that was not is refused with its own number, on the recorder that the others left
+abbrev pub RunEnds : Recorder → List ℕ → List ℕ → Type 0
+RunEnds r run buffer =
+    let reply = samplesLent r run buffer .reply in
+    (otherLength (r .profile) buffer .due 0 × (reply .taken ≡ 0) × (reply .number ≡ 14))
+    ⊎ ((reply .taken ≡ length run) × (reply .number ≡ 0))
     ⊎ ((reply .taken < length run) × (reply .number ≡ 0 → ⊥) × Ordered (sampleRefusals (reply .after) (getD run (reply .taken) 0)) (numbered (reply .number)))
 
--- each call, on every recorder, ends with its result or with exactly the number that the rules name: "Order: start 1, 2, 3, 4, 9; sample 5, 6; reading 7, 8, 10; register 11, 12, 8, 13. Clock sets can give only 9"
+-- each call, on every recorder, ends with its result or with exactly the number that the rules name: "Order: start 1, 2, 3, 4, 9; sample 5, 6; reading 7, 8, 10; register 11, 12, 8, 13. Clock sets can give only 9",
+-- and of CR 1 14 "before anything else", 8 "next"; a record 14, 15, 13
 pub record NumbersExact : Type 0 where
   pub images : (b : List ℕ) → Ordered (imageRefusals b) (imageAnswer b)
-  pub starts : (b : List ℕ) (time : ℕ) → Ordered (imageRefusals b ++ (noDate time ∷ [])) (startReply b time .answer)
-  pub samples : (r : Recorder) (bits : ℕ) → Ordered (sampleRefusals r bits) (numbered (sampleReply r bits .number))
-  pub runs : (r : Recorder) (run : List ℕ) → RunEnds r run
-  pub sets : (r : Recorder) (time : ℕ) → Ordered (noDate time ∷ []) (numbered (setReply r time .number))
+  pub starts : (setup : Setup) (lent : ℕ) (b : List ℕ) (time : ℕ)
+      → Ordered (badLength lent ∷ badSlot setup ∷ imageRefusals b ++ (noDate time ∷ [])) (startReply setup lent b time .answer)
+  pub samples : (r : Recorder) (bits : ℕ) (buffer : List ℕ)
+      → Ordered (otherLength (r .profile) buffer ∷ sampleRefusals r bits) (numbered (sampleLent r bits buffer .reply .number))
+  pub runs : (r : Recorder) (run buffer : List ℕ) → RunEnds r run buffer
+  pub sets : (r : Recorder) (time : ℕ) (buffer : List ℕ)
+      → Ordered (otherLength (r .profile) buffer ∷ noDate time ∷ []) (numbered (setLent r time buffer .reply .number))
   pub readings : (r : Recorder) (meter : ℕ) (value : ℤ) (status seq : ℕ)
       → Ordered (readingRefusals r meter status seq) (numbered (readingReply r meter value status seq .number))
   pub registers : (r : Recorder) (group register : ℕ) (buffer : List ℕ)
       → Ordered (registerRefusals r group register buffer) (registerReply r group register buffer .answer)
+  pub records : (p : Profile) (index : ℕ) (buffer result : List ℕ)
+      → Ordered (recordRefusals p index buffer result) (recordReply p index buffer result .answer)
   pub ages : (limit : ℕ) (read : Bool) (stamp status clock : ℕ) → Ordered (ageRefusals limit status) (ageOf limit read stamp status clock)
   pub writes : (c : Config) (buffer : List ℕ) → Ordered (writeRefusals c buffer) (writeAnswer c (length buffer))
 
--- "A refused call changes no byte of any buffer lent to it", and nothing in the recorder
+-- a call that was lent a buffer left the recorder and each byte of the buffer
+abbrev pub Left : Recorder → List ℕ → WithBuffer (Reply Recorder) → Type 0
+Left r buffer x = (x .reply .after ≡ r) × (x .buffer ≡ buffer)
+
+-- two runs left the same recorder and the same bytes in the buffer
+abbrev pub SameLeft : WithBuffer (RunReply Recorder) → WithBuffer (RunReply Recorder) → Type 0
+SameLeft x y = (x .reply .after ≡ y .reply .after) × (x .buffer ≡ y .buffer)
+
+-- "A refused call changes no byte of any buffer lent to it", and nothing in the recorder; a run of samples is the run of those that were taken. (A start is lent its buffer only to read its length.)
 pub record RefusedChangesNothing : Type 0 where
-  pub samples : (r : Recorder) (bits : ℕ) → (sampleReply r bits .number ≡ 0 → ⊥) → sampleReply r bits .after ≡ r
-  pub runs : (r : Recorder) (run : List ℕ) → samplesReply r run .after ≡ samplesReply r (take (samplesReply r run .taken) run) .after
-  pub sets : (r : Recorder) (time : ℕ) → (setReply r time .number ≡ 0 → ⊥) → setReply r time .after ≡ r
+  pub samples : (r : Recorder) (bits : ℕ) (buffer : List ℕ) → (sampleLent r bits buffer .reply .number ≡ 0 → ⊥) → Left r buffer (sampleLent r bits buffer)
+  pub runs : (r : Recorder) (run buffer : List ℕ) → SameLeft (samplesLent r run buffer) (samplesLent r (take (samplesLent r run buffer .reply .taken) run) buffer)
+  pub sets : (r : Recorder) (time : ℕ) (buffer : List ℕ) → (setLent r time buffer .reply .number ≡ 0 → ⊥) → Left r buffer (setLent r time buffer)
+  pub records : (p : Profile) (index : ℕ) (buffer result : List ℕ) (n offset : ℕ)
+      → recordReply p index buffer result .answer ≡ refused n offset → recordReply p index buffer result .result ≡ result
   pub readings : (r : Recorder) (meter : ℕ) (value : ℤ) (status seq : ℕ)
       → (readingReply r meter value status seq .number ≡ 0 → ⊥) → readingReply r meter value status seq .after ≡ r
   pub registers : (r : Recorder) (group register : ℕ) (buffer : List ℕ) (n offset : ℕ)

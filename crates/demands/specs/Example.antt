@@ -12,6 +12,7 @@ use Rattle.laws.specs.Tables.{table}
 use Rattle.tariff.specs.declared.Program.{Program}
 use Rattle.settings.specs.declared.Config.{Config}
 use Rattle.recorder.specs.History.{Call, sample, set, reading, reset}
+use Rattle.recorder.specs.declared.Setup.{Setup}
 use Rattle.demands.specs.Account.{Entry, took, ended, cleared, heard, Account, whole, since, booksAt, always, impulsesOf, feeding, bookedIn, accountOf, journalOf}
 use Rattle.demands.specs.Energy.{stretchesOf, inputsIn, scaleOf, energyOf, wholeUnitsOf}
 use Rattle.demands.specs.Starts.{Accepted}
@@ -112,14 +113,14 @@ abbrev pub firstTwo : ℕ → Bool
 firstTwo j = ltb j 2
 
 -- what the theorems speak of, register by register: 0 and 3 by day, 1 and 4 by night, 2 and 5 without a tariff, 6 on the empty sum, 7 with a rule that is never in force
-pub record Numbers : Type 0 where
+pub record Numbers (setup : Setup) (lent : ℕ) : Type 0 where
   -- the configuration is one that the image check accepts, the account is that above, and the reading of meter 4 is answered with 8
   pub accepted : Accepted twoMakers
   pub happened : accountOf twoMakers start calls ≡ account
-  pub not-fitted : replyNumber (reached twoMakers start calls) (reading 4 (pos 5) 0 0) ≡ 8
+  pub not-fitted : replyNumber (reached setup lent twoMakers start calls) (reading 4 (pos 5) 0 0) ≡ 8
   -- open amounts, and all closed ones
-  pub opened : eight (λ j. openOf twoMakers start j calls) ≡ 0 ∷ 2 ∷ 2 ∷ 2 ∷ 3 ∷ 5 ∷ 0 ∷ 0 ∷ []
-  pub closed : eight (λ j. closedOf twoMakers start j calls) ≡ 1 ∷ 1 ∷ 2 ∷ 5 ∷ 5 ∷ 10 ∷ 0 ∷ 0 ∷ []
+  pub opened : eight (λ j. openOf setup lent twoMakers start j calls) ≡ 0 ∷ 2 ∷ 2 ∷ 2 ∷ 3 ∷ 5 ∷ 0 ∷ 0 ∷ []
+  pub closed : eight (λ j. closedOf setup lent twoMakers start j calls) ≡ 1 ∷ 1 ∷ 2 ∷ 5 ∷ 5 ∷ 10 ∷ 0 ∷ 0 ∷ []
   -- feeding inputs, the product of their denominators, the exact energy since the reset times it, the stretches that count: the second of the night began before the reset
   pub inputs : eight (λ j. inputsIn (feeding twoMakers j)) ≡ 2 ∷ 2 ∷ 2 ∷ 1 ∷ 1 ∷ 1 ∷ 0 ∷ 2 ∷ []
   pub scales : eight (λ j. scaleOf twoMakers (feeding twoMakers j)) ≡ 40 ∷ 40 ∷ 40 ∷ 2 ∷ 2 ∷ 2 ∷ 1 ∷ 40 ∷ []
@@ -149,11 +150,11 @@ dayAndNightThrice =
     reverse (both ++ (both ++ both))
 
 -- their numbers
-pub record Needed : Type 0 where
-  pub few : openOf twoMakers start 2 byDay ≡ 1
+pub record Needed (setup : Setup) (lent : ℕ) : Type 0 where
+  pub few : openOf setup lent twoMakers start 2 byDay ≡ 1
   pub owed : energyOf twoMakers (booksAt twoMakers 2) (feeding twoMakers 2) (since twoMakers (journalOf twoMakers start byDay)) ≡ 106
   pub one-stretch : stretchesOf (booksAt twoMakers 2) (since twoMakers (journalOf twoMakers start byDay)) ≡ 1
-  pub many : openOf twoMakers start 4 dayAndNightThrice ≡ 9
+  pub many : openOf setup lent twoMakers start 4 dayAndNightThrice ≡ 9
   pub less : energyOf twoMakers (booksAt twoMakers 4) (feeding twoMakers 4) (since twoMakers (journalOf twoMakers start dayAndNightThrice)) ≡ 15
   pub three-stretches : stretchesOf (booksAt twoMakers 4) (since twoMakers (journalOf twoMakers start dayAndNightThrice)) ≡ 3
 
@@ -185,12 +186,12 @@ nearlyFull = sample 65_535 ∷ pulses 6_249
 
 -- the sample that would end the 6,250th is refused, counts for nothing in the account, and is accepted after a reset: the runs went on. The last closed period is the second minute, whole: 3,000 impulses
 -- of each input
-pub record Filled : Type 0 where
+pub record Filled (setup : Setup) (lent : ℕ) : Type 0 where
   pub accepted : Accepted fullMaker
-  pub opened : openOf fullMaker 0 0 nearlyFull ≡ 999_840_000
-  pub refused : replyNumber (reached fullMaker 0 nearlyFull) (sample 0) ≡ 6
+  pub opened : openOf setup lent fullMaker 0 0 nearlyFull ≡ 999_840_000
+  pub refused : replyNumber (reached setup lent fullMaker 0 nearlyFull) (sample 0) ≡ 6
   pub impulses : (i : ℕ) → i < 16 → impulsesOf always i (whole fullMaker (journalOf fullMaker 0 (sample 0 ∷ nearlyFull))) ≡ 6_249
-  pub closed : closedOf fullMaker 0 0 (sample 0 ∷ reset ∷ sample 0 ∷ nearlyFull) ≡ 999_840_000
-  pub anew : openOf fullMaker 0 0 (sample 0 ∷ reset ∷ sample 0 ∷ nearlyFull) ≡ 160_000
-  pub whole-period : reached fullMaker 0 nearlyFull .state .closed
+  pub closed : closedOf setup lent fullMaker 0 0 (sample 0 ∷ reset ∷ sample 0 ∷ nearlyFull) ≡ 999_840_000
+  pub anew : openOf setup lent fullMaker 0 0 (sample 0 ∷ reset ∷ sample 0 ∷ nearlyFull) ≡ 160_000
+  pub whole-period : reached setup lent fullMaker 0 nearlyFull .state .closed
       ≡ record { state = 2; stamp = 120; values = pos 30_000_000 ∷ pos 480_000_000 ∷ negsuc 479_999_999 ∷ replicate 13 (pos 0) }

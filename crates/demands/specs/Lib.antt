@@ -7,6 +7,8 @@ pub mod Shown
 pub mod Demand1
 pub mod Demand2
 pub mod Demand3
+pub mod Profile
 pub mod Table
 pub mod Example
+pub mod ProfileCases
 pub mod Tightness

@@ -1,10 +1,10 @@
 -- The recorder's state as the account of a history spells it out, field by field, in the words of document 01.
 use mathlib.Core.Bool.{false}
 use mathlib.Core.List.{List, [], _∷_}
-use Prim.Native.Nat.{ℕ, _+_, _*_, _%_, min}
+use Prim.Native.Nat.{ℕ, _+_, _*_, _/_, _%_, min}
 use lib.Dec.{eqb}
 use lib.IntN.{ℤ, pos, _*ℤ_}
-use lib.ListN.{getD, replicate}
+use lib.ListN.{length, getD, replicate}
 use Rattle.laws.specs.If.{if_then_else_}
 use Rattle.laws.specs.SignedTotal.{totalℤ}
 use Rattle.laws.specs.Tables.{table}
@@ -15,6 +15,7 @@ use Rattle.counting.specs.Filter.{inputAt}
 use Rattle.counting.specs.Bills.{unitAt, sumOf}
 use Rattle.counting.specs.declared.Line.{Line}
 use Rattle.counting.specs.declared.Bill.{Bill}
+use Rattle.profile.specs.declared.Profile.{Profile}
 use Rattle.sampling.specs.declared.Meter.{Meter}
 use Rattle.sampling.specs.declared.Period.{Period}
 use Rattle.sampling.specs.declared.State.{State}
@@ -75,3 +76,7 @@ stateIn c a =
       meters = table 32 (λ i. meterIn (lastReading (a .journal) i));
       closed = lastPeriod c (periodsOf c (a .journal));
     }
+
+-- where the records of the closed periods stand in a buffer of this length: the next place goes round the room for whole records, and as many are held as fit
+abbrev pub profileIn : ℕ → List Ended → Profile
+profileIn lent periods = record { length = lent; next = length periods % (lent / 69); held = min (length periods) (lent / 69) }

@@ -37,17 +37,22 @@ use Rattle.counting.proofs.bills.amounts_of.Reads as counting-amounts-of
 use Rattle.counting.proofs.bills.put_amounts.Reads as counting-put-amounts
 use Rattle.counting.proofs.levels.level9.Reads as counting-level9
 use Rattle.sampling.proofs.samples.take.Reads as sampling-take
-use Rattle.sampling.proofs.samples.run.Reads as sampling-run
-use Rattle.sampling.proofs.samples.one.Reads as sampling-one
 use Rattle.sampling.proofs.clock.close.Reads as sampling-close
-use Rattle.sampling.proofs.clock.cleared.Reads as sampling-cleared
-use Rattle.sampling.proofs.clock.close_period.Reads as sampling-close-period
+use Rattle.sampling.proofs.clock.close_with.Reads as sampling-close-with
+use Rattle.profile.proofs.legal_length.Reads as profile-legal-length
+use Rattle.profile.proofs.Profile.as_at_start.Reads as profile-as-at-start
+use Rattle.profile.proofs.Profile.put.Reads as profile-put
+use Rattle.profile.proofs.Profile.read.Reads as profile-read
+use Rattle.profile.proofs.bits64.Reads as profile-bits64
+use Rattle.profile.proofs.slots_fit.Reads as profile-slots-fit
+use Rattle.profile.proofs.choose.Reads as profile-choose
 use Rattle.recorder.proofs.Recorder.start.Reads as recorder-start
 use Rattle.recorder.proofs.Recorder.sample.Reads as recorder-sample
 use Rattle.recorder.proofs.Recorder.samples.Reads as recorder-samples
 use Rattle.recorder.proofs.Recorder.set_clock.Reads as recorder-set-clock
 use Rattle.recorder.proofs.Recorder.reading.Reads as recorder-reading
 use Rattle.recorder.proofs.Recorder.reset_bills.Reads as recorder-reset-bills
+use Rattle.recorder.proofs.Recorder.read_record.Reads as recorder-read-record
 use Rattle.recorder.proofs.age_class.Reads as recorder-age-class
 use Rattle.recorder.proofs.age_answer.Reads as recorder-age-answer
 use Rattle.registers.proofs.read_register.Reads as registers-read-register
@@ -60,6 +65,7 @@ use Rattle.answers.proofs.samples_line.Reads as answers-samples-line
 use Rattle.answers.proofs.set_line.Reads as answers-set-line
 use Rattle.answers.proofs.reading_line.Reads as answers-reading-line
 use Rattle.answers.proofs.register_line.Reads as answers-register-line
+use Rattle.answers.proofs.record_line.Reads as answers-record-line
 use Rattle.answers.proofs.image_part.Reads as answers-image-part
 use Rattle.answers.proofs.date_line.Reads as answers-date-line
 use Rattle.answers.proofs.fleet_line.Reads as answers-fleet-line
@@ -127,18 +133,24 @@ pub record Tight : Type 1 where
   pub counting-level9 : Alone counting-level9.Post counting-level9.Asked
   -- crate sampling
   pub sampling-take : Alone sampling-take.Post sampling-take.Asked
-  pub sampling-run : Alone sampling-run.Post sampling-run.Asked
-  pub sampling-one : Alone sampling-one.Post sampling-one.Asked
   pub sampling-close : Alone sampling-close.Post sampling-close.Asked
-  pub sampling-cleared : Alone sampling-cleared.Post sampling-cleared.Asked
-  pub sampling-close-period : Alone sampling-close-period.Post sampling-close-period.Asked
+  pub sampling-close-with : Alone sampling-close-with.Post sampling-close-with.Asked
+  -- crate profile
+  pub profile-legal-length : Alone profile-legal-length.Post profile-legal-length.Asked
+  pub profile-as-at-start : Alone profile-as-at-start.Post profile-as-at-start.Asked
+  pub profile-put : AloneAndLent (λ κs e. now (e .1 .1 .0)) profile-put.Post profile-put.Asked
+  pub profile-read : AloneAndLent (λ κs e. now (e .1 .1 .1 .0)) profile-read.Post profile-read.Asked
+  pub profile-bits64 : Alone profile-bits64.Post profile-bits64.Asked
+  pub profile-slots-fit : Alone profile-slots-fit.Post profile-slots-fit.Asked
+  pub profile-choose : Alone profile-choose.Post profile-choose.Asked
   -- crate recorder
   pub recorder-start : Alone recorder-start.Post recorder-start.Asked
-  pub recorder-sample : Alone recorder-sample.Post recorder-sample.Asked
-  pub recorder-samples : Alone recorder-samples.Post recorder-samples.Asked
-  pub recorder-set-clock : Alone recorder-set-clock.Post recorder-set-clock.Asked
+  pub recorder-sample : AloneAndLent (λ κs e. now (e .1 .1 .0)) recorder-sample.Post recorder-sample.Asked
+  pub recorder-samples : AloneAndLent (λ κs e. now (e .1 .1 .0)) recorder-samples.Post recorder-samples.Asked
+  pub recorder-set-clock : AloneAndLent (λ κs e. now (e .1 .1 .0)) recorder-set-clock.Post recorder-set-clock.Asked
   pub recorder-reading : Alone recorder-reading.Post recorder-reading.Asked
   pub recorder-reset-bills : Alone recorder-reset-bills.Post recorder-reset-bills.Asked
+  pub recorder-read-record : AloneAndLent (λ κs e. now (e .1 .1 .1 .0)) recorder-read-record.Post recorder-read-record.Asked
   pub recorder-age-class : Alone recorder-age-class.Post recorder-age-class.Asked
   pub recorder-age-answer : Alone recorder-age-answer.Post recorder-age-answer.Asked
   -- crate registers
@@ -154,6 +166,7 @@ pub record Tight : Type 1 where
   pub answers-set-line : Alone answers-set-line.Post answers-set-line.Asked
   pub answers-reading-line : Alone answers-reading-line.Post answers-reading-line.Asked
   pub answers-register-line : Alone answers-register-line.Post answers-register-line.Asked
+  pub answers-record-line : Alone answers-record-line.Post answers-record-line.Asked
   pub answers-image-part : Alone answers-image-part.Post answers-image-part.Asked
   pub answers-date-line : Alone answers-date-line.Post answers-date-line.Asked
   pub answers-fleet-line : Alone answers-fleet-line.Post answers-fleet-line.Asked

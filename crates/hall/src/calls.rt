@@ -3,15 +3,21 @@ use crate::output::put_text;
 use answers::Text;
 use image::IMAGE_LENGTH;
 use lines::Line;
-use lines::Mistake;
+use lines::Slots;
 use recorder::Recorder;
 use recorder::SampleRun;
+use recorder::Setup;
 use sampling::SampleAnswer;
 ghost use Prim.Native.Nat.{_<_, _≤_};
 
-// The recorder, and how much of the output buffer is filled.
+// How many bytes the store for records has: one more than may be lent.
+pub(crate) const STORE_LENGTH: usize = 65537;
+
+// The recorder, the slots that the next start chooses, how many bytes of the store are lent, and how much of the output buffer is filled.
 pub(crate) struct Desk {
     pub recorder: Recorder,
+    pub setup: Setup,
+    pub lent: usize,
     pub at: usize,
 }
 
@@ -25,22 +31,60 @@ struct Counted {
 // Before a start the recorder is the blank one, as after a refused start.
 pub(crate) fn first_desk() -> Desk {
     let none = [0u8; 1];
-    let start = Recorder::start(&none, 0);
+    let setup = Setup {
+        slots: [0, 1, 2, 3, 4, 5, 6, 7],
+    };
+    let start = Recorder::start(&none, 0, setup, &none);
     let recorder = start.recorder;
-    Desk { recorder, at: 0 }
+    Desk {
+        recorder,
+        setup,
+        lent: 65536,
+        at: 0,
+    }
 }
 
 // An answer, and the recorder after it.
-fn said(recorder: Recorder, out: &mut [u8], at: usize, text: Text) -> Desk {
-    let next = put_text(out, at, text);
-    Desk { recorder, at: next }
+fn said(desk: Desk, recorder: Recorder, out: &mut [u8], text: Text) -> Desk {
+    let mut next = desk;
+    next.at = put_text(out, desk.at, text);
+    next.recorder = recorder;
+    next
 }
 
-fn start(desk: Desk, image: &[u8], out: &mut [u8], time: u32) -> Desk {
-    let start = Recorder::start(image, time);
+// An answer that leaves the recorder.
+fn told(desk: Desk, out: &mut [u8], text: Text) -> Desk {
+    let mut next = desk;
+    next.at = put_text(out, desk.at, text);
+    next
+}
+
+// What is lent from now on, and chosen by the next start. No more than the store has is lent, which is too long already.
+fn profile(desk: Desk, out: &mut [u8], length: u32, slots: Slots) -> Desk {
+    let mut next = told(desk, out, answers::ok());
+    let setup = Setup {
+        slots: [
+            slots.s0,
+            slots.s1,
+            slots.s2,
+            slots.s3,
+            slots.s4,
+            slots.s5,
+            slots.s6,
+            slots.s7,
+        ],
+    };
+    next.lent = length as usize;
+    next.setup = setup;
+    next
+}
+
+fn start(desk: Desk, image: &[u8], buffer: &[u8], out: &mut [u8], time: u32) -> Desk {
+    let setup = desk.setup;
+    let start = Recorder::start(image, time, setup, buffer);
     let answer = start.answer;
     let recorder = start.recorder;
-    said(recorder, out, desk.at, answers::start_line(answer))
+    said(desk, recorder, out, answers::start_line(answer))
 }
 
 fn piece(left: u32) -> usize
@@ -50,12 +94,12 @@ fn piece(left: u32) -> usize
     if left < 512 { left as usize } else { 512 }
 }
 
-fn take_piece(recorder: Recorder, bits: u16, n: usize) -> SampleRun
+fn take_piece(recorder: Recorder, bits: u16, n: usize, buffer: &mut [u8]) -> SampleRun
     requires { ⌜ n ≤ 512 ⌝ }
     ensures { λ r. ⌜ r .taken ≤ n ⌝ }
 {
     let all = [bits; 512];
-    recorder.samples(&all[..n])
+    recorder.samples(&all[..n], buffer)
 }
 
 fn is_taken(answer: SampleAnswer) -> bool {
@@ -67,12 +111,12 @@ fn is_taken(answer: SampleAnswer) -> bool {
 }
 
 // In pieces of 512, to the first refusal.
-fn take_samples(recorder: Recorder, bits: u16, count: u32) -> Counted {
+fn take_samples(recorder: Recorder, bits: u16, count: u32, buffer: &mut [u8]) -> Counted {
     let mut now = recorder;
     let mut left = count;
     while 0 < left {
         let n = piece(left);
-        let run = take_piece(now, bits, n);
+        let run = take_piece(now, bits, n, buffer);
         let answer = run.answer;
         now = run.recorder;
         if !is_taken(answer) {
@@ -91,25 +135,25 @@ fn take_samples(recorder: Recorder, bits: u16, count: u32) -> Counted {
     }
 }
 
-fn sample(desk: Desk, out: &mut [u8], bits: u16, count: u32) -> Desk {
+fn sample(desk: Desk, buffer: &mut [u8], out: &mut [u8], bits: u16, count: u32) -> Desk {
     let before = desk.recorder;
-    let counted = take_samples(before, bits, count);
+    let counted = take_samples(before, bits, count, buffer);
     let answer = counted.answer;
     let recorder = counted.recorder;
     said(
+        desk,
         recorder,
         out,
-        desk.at,
         answers::samples_line(answer, counted.taken),
     )
 }
 
-fn set(desk: Desk, out: &mut [u8], time: u32) -> Desk {
+fn set(desk: Desk, buffer: &mut [u8], out: &mut [u8], time: u32) -> Desk {
     let before = desk.recorder;
-    let set = before.set_clock(time);
+    let set = before.set_clock(time, buffer);
     let answer = set.answer;
     let recorder = set.recorder;
-    said(recorder, out, desk.at, answers::set_line(answer))
+    said(desk, recorder, out, answers::set_line(answer))
 }
 
 fn reading(desk: Desk, out: &mut [u8], meter: u8, value: i32, status: u8, seq: u8) -> Desk {
@@ -117,33 +161,40 @@ fn reading(desk: Desk, out: &mut [u8], meter: u8, value: i32, status: u8, seq: u
     let read = before.reading(meter, value, status, seq);
     let answer = read.answer;
     let recorder = read.recorder;
-    said(recorder, out, desk.at, answers::reading_line(answer))
+    said(desk, recorder, out, answers::reading_line(answer))
 }
 
 fn reset(desk: Desk, out: &mut [u8]) -> Desk {
     let before = desk.recorder;
     let recorder = before.reset_bills();
-    said(recorder, out, desk.at, answers::ok())
+    said(desk, recorder, out, answers::ok())
 }
 
-// No register is longer than 13 bytes, so more room answers the same.
-fn room_of(room: u32) -> usize
-    ensures { λ r. ⌜ r ≤ 13 ⌝ }
+// The room that is asked for, up to what the longest answer needs: more room answers the same.
+fn room_of(room: u32, most: usize) -> usize
+    ensures { λ r. ⌜ r ≤ most ⌝ }
 {
-    if room < 13 { room as usize } else { 13 }
+    if (room as usize) < most {
+        room as usize
+    } else {
+        most
+    }
 }
 
 fn register(desk: Desk, out: &mut [u8], group: u32, number: u32, room: u32) -> Desk {
     let recorder = desk.recorder;
-    let n = room_of(room);
+    let n = room_of(room, 13);
     let mut bytes = [0u8; 13];
     let answer = registers::read_register(recorder, group, number, &mut bytes[..n]);
-    said(
-        recorder,
-        out,
-        desk.at,
-        answers::register_line(answer, bytes),
-    )
+    told(desk, out, answers::register_line(answer, bytes))
+}
+
+fn read_record(desk: Desk, buffer: &[u8], out: &mut [u8], index: u32, room: u32) -> Desk {
+    let recorder = desk.recorder;
+    let n = room_of(room, 69);
+    let mut bytes = [0u8; 69];
+    let answer = recorder.read_record(index, buffer, &mut bytes[..n]);
+    told(desk, out, answers::record_line(answer, bytes))
 }
 
 // The image's line, part by part.
@@ -158,32 +209,31 @@ fn write_image(desk: Desk, out: &mut [u8]) -> Desk {
         at = put_text(out, at, answers::image_part(answer, &image, from));
         from += 100;
     }
-    Desk { recorder, at }
-}
-
-fn date(desk: Desk, out: &mut [u8], seconds: u32) -> Desk {
-    let recorder = desk.recorder;
-    said(recorder, out, desk.at, answers::date_line(seconds))
+    let mut next = desk;
+    next.at = at;
+    next
 }
 
 fn fleet(desk: Desk, out: &mut [u8]) -> Desk {
     let recorder = desk.recorder;
     let fleet = registers::fleet_of(recorder);
-    said(recorder, out, desk.at, answers::fleet_line(fleet))
+    told(desk, out, answers::fleet_line(fleet))
 }
 
-fn error(desk: Desk, out: &mut [u8], number: u64, mistake: Mistake) -> Desk {
-    let recorder = desk.recorder;
-    said(recorder, out, desk.at, answers::error_line(number, mistake))
-}
-
-// Answers line `number`: by one line, or by none where nothing is asked.
-pub(crate) fn answer(desk: Desk, image: &[u8], out: &mut [u8], number: u64, text: &[u8]) -> Desk {
+// Answers line `number`: by one line, or by none where nothing is asked. The buffer is the part of the store that is lent.
+pub(crate) fn answer(
+    desk: Desk,
+    image: &[u8],
+    buffer: &mut [u8],
+    out: &mut [u8],
+    number: u64,
+    text: &[u8],
+) -> Desk {
     match lines::line_of(text) {
         Line::Nothing => desk,
-        Line::Start(time) => start(desk, image, out, time),
-        Line::Sample(bits, count) => sample(desk, out, bits, count),
-        Line::Set(time) => set(desk, out, time),
+        Line::Start(time) => start(desk, image, buffer, out, time),
+        Line::Sample(bits, count) => sample(desk, buffer, out, bits, count),
+        Line::Set(time) => set(desk, buffer, out, time),
         Line::Reading(meter, value, status, seq) => reading(desk, out, meter, value, status, seq),
         Line::Reset => reset(desk, out),
         Line::Register(group, register_number, room) => register(
@@ -194,8 +244,10 @@ pub(crate) fn answer(desk: Desk, image: &[u8], out: &mut [u8], number: u64, text
             room,
         ),
         Line::Image => write_image(desk, out),
-        Line::Date(seconds) => date(desk, out, seconds),
+        Line::Date(seconds) => told(desk, out, answers::date_line(seconds)),
         Line::Fleet => fleet(desk, out),
-        Line::Wrong(mistake) => error(desk, out, number, mistake),
+        Line::Profile(length, slots) => profile(desk, out, length, slots),
+        Line::Record(index, room) => read_record(desk, buffer, out, index, room),
+        Line::Wrong(mistake) => told(desk, out, answers::error_line(number, mistake)),
     }
 }

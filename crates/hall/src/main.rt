@@ -5,6 +5,7 @@ mod calls;
 mod output;
 
 use calls::Desk;
+use calls::STORE_LENGTH;
 use image::IMAGE_LENGTH;
 use libc::STDIN_FILENO;
 use libc::STDOUT_FILENO;
@@ -46,16 +47,28 @@ fn line_end(bytes: &[u8], from: usize) -> usize
     i
 }
 
+// No more of the store is lent than there is.
+fn lent_of(desk: Desk, store: &[u8]) -> usize
+    ensures { λ r. ⌜ r ≤ length (now (store .entry)) ⌝ }
+{
+    if desk.lent < store.len() {
+        return desk.lent;
+    }
+    store.len()
+}
+
 fn answer_line(
     desk: Desk,
     image: &[u8],
     line: &[u8],
+    store: &mut [u8],
     out: &mut [u8],
     number: u64,
     length: usize,
 ) -> Desk {
     if length <= line.len() {
-        return calls::answer(desk, image, out, number, &line[..length]);
+        let n = lent_of(desk, store);
+        return calls::answer(desk, image, &mut store[..n], out, number, &line[..length]);
     }
     desk
 }
@@ -66,7 +79,14 @@ fn one_more(lines: u64) -> u64 {
 }
 
 // Answers each line that ends in these bytes, and keeps what is left of the last.
-fn take_bytes(work: Work, image: &[u8], line: &mut [u8], out: &mut [u8], bytes: &[u8]) -> Work {
+fn take_bytes(
+    work: Work,
+    image: &[u8],
+    line: &mut [u8],
+    store: &mut [u8],
+    out: &mut [u8],
+    bytes: &[u8],
+) -> Work {
     let mut desk = work.desk;
     let mut lines = work.lines;
     let mut kept = work.length;
@@ -83,7 +103,7 @@ fn take_bytes(work: Work, image: &[u8], line: &mut [u8], out: &mut [u8], bytes: 
         }
         i = end + 1;
         lines = one_more(lines);
-        desk = answer_line(desk, image, line, out, lines, kept);
+        desk = answer_line(desk, image, line, store, out, lines, kept);
         kept = 0;
     }
     Work {
@@ -106,10 +126,18 @@ fn flush(work: Work, out: &[u8]) -> Work {
 }
 
 // A last line may have no end.
-fn last_line(work: Work, image: &[u8], line: &[u8], out: &mut [u8]) {
+fn last_line(work: Work, image: &[u8], line: &[u8], store: &mut [u8], out: &mut [u8]) {
     let length = work.length;
     if 0 < length {
-        let desk = answer_line(work.desk, image, line, out, one_more(work.lines), length);
+        let desk = answer_line(
+            work.desk,
+            image,
+            line,
+            store,
+            out,
+            one_more(work.lines),
+            length,
+        );
         output::flush(out, desk.at);
     }
 }
@@ -117,6 +145,7 @@ fn last_line(work: Work, image: &[u8], line: &[u8], out: &mut [u8]) {
 // A proved loop has to end, and nothing says that the input does. So it counts its turns down, from a number that no run uses up.
 fn run(image: &[u8]) {
     let mut line = [0u8; 257];
+    let mut store = [0u8; STORE_LENGTH];
     let mut out = io::large_buffer();
     let desk = calls::first_desk();
     let mut work = Work {
@@ -130,11 +159,11 @@ fn run(image: &[u8]) {
         let mut buffer = io::large_buffer();
         let got = libc::read(STDIN_FILENO, &mut buffer);
         if got <= 0 {
-            last_line(work, image, &line, &mut out);
+            last_line(work, image, &line, &mut store, &mut out);
             return;
         }
         let n = io::count(got, &buffer);
-        work = take_bytes(work, image, &mut line, &mut out, &buffer[..n]);
+        work = take_bytes(work, image, &mut line, &mut store, &mut out, &buffer[..n]);
         work = flush(work, &out);
     }
 }

@@ -16,6 +16,8 @@ pub mod Keys
 pub mod Bytes
 pub mod Signed
 pub mod Runs
+pub mod Stores
+pub mod Cycles
 pub mod Codec
 pub mod Arrays
 pub mod Unique

@@ -1,9 +1,10 @@
 -- The table of lines. A line is taken without its end.
 use mathlib.Core.Bool.{Bool, true, not, _||_}
 use mathlib.Core.List.{List, [], _∷_}
-use Prim.Native.Nat.{ℕ}
+use Prim.Native.Nat.{ℕ, _+_}
 use lib.Dec.{ltb, eqb}
 use lib.ListN.{length, getD}
+use Rattle.laws.specs.First.{first}
 use Rattle.laws.specs.If.{if_then_else_}
 use Rattle.laws.specs.Letters.{letters}
 use Rattle.lines.specs.Words.{withoutReturn, words, word, same}
@@ -11,7 +12,7 @@ use Rattle.lines.specs.Numbers.{wholeOf, signedOf}
 use Rattle.lines.specs.declared.numbers.Number.{Number}
 use Rattle.lines.specs.declared.numbers.Signed.{Signed}
 use Rattle.lines.specs.declared.Line.{Line}
-use Rattle.lines.specs.declared.Line.the-variants.{Nothing, Start, Sample, Set, Reading, Reset, Register, Image, Date, Fleet, Wrong}
+use Rattle.lines.specs.declared.Line.the-variants.{Nothing, Start, Sample, Set, Reading, Reset, Register, Image, Date, Fleet, Profile, Record, Wrong}
 use Rattle.lines.specs.declared.Mistake.the-variants as mistake
 use Rattle.lines.specs.declared.Command.{Command}
 use Rattle.lines.specs.declared.Command.the-variants as command
@@ -77,6 +78,19 @@ registerAsked g r room =
     else if not (room .ok) then bad parameter.Room
     else Register (g .value) (r .value) (room .value)
 
+-- a profile: length and slots; the first number that is wrong is told
+abbrev pub profileAsked : Number → (ℕ → Number) → Line
+profileAsked n slot =
+    let wrong = first 8 (λ k. not (slot k .ok)) in
+    let v : ℕ → ℕ = λ k. slot k .value in
+    if not (n .ok) then bad parameter.Length
+    else if ltb wrong 8 then bad (parameter.Slot wrong)
+    else Profile (n .value) (record { s0 = v 0; s1 = v 1; s2 = v 2; s3 = v 3; s4 = v 4; s5 = v 5; s6 = v 6; s7 = v 7 })
+
+-- a record: index and room
+abbrev pub recordAsked : Number → Number → Line
+recordAsked i room = if not (i .ok) then bad parameter.Index else if not (room .ok) then bad parameter.Room else Record (i .value) (room .value)
+
 -- how many words a line of a command has
 abbrev pub hasWords : Command → ℕ → Bool
 hasWords command.Start n = eqb n 2
@@ -88,8 +102,10 @@ hasWords command.Register n = eqb n 3 || eqb n 4
 hasWords command.Image n = eqb n 1
 hasWords command.Date n = eqb n 2
 hasWords command.Fleet n = eqb n 1
+hasWords command.Profile n = eqb n 10
+hasWords command.Record n = eqb n 2 || eqb n 3
 
--- what a line of a command asks; COUNT is 1 where it is not written, and ROOM 13, the longest register
+-- what a line of a command asks; COUNT is 1 where it is not written, and ROOM 13, the longest register, or 69, a record
 unfoldable pub askedOf : Command → List ℕ → Line
 askedOf command.Start text = timeOf Start (number32 1 text)
 askedOf command.Sample text = sampleAsked (number16 1 text) (numberOr 1 2 text)
@@ -100,6 +116,8 @@ askedOf command.Register text = registerAsked (number32 1 text) (number32 2 text
 askedOf command.Image text = Image
 askedOf command.Date text = timeOf Date (number32 1 text)
 askedOf command.Fleet text = Fleet
+askedOf command.Profile text = profileAsked (number32 1 text) (λ k. number8 (k + 2) text)
+askedOf command.Record text = recordAsked (number32 1 text) (numberOr 69 2 text)
 
 -- the commands by their words
 unfoldable pub commands : List (List ℕ × Command)
@@ -113,6 +131,8 @@ commands =
     ∷ (letters "image", command.Image)
     ∷ (letters "date", command.Date)
     ∷ (letters "fleet", command.Fleet)
+    ∷ (letters "profile", command.Profile)
+    ∷ (letters "record", command.Record)
     ∷ []
 
 -- the command that a table has for a word

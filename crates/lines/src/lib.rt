@@ -8,7 +8,7 @@ ghost use mathlib.Core.Path.{_≡_};
 ghost use Prim.Native.Nat.{_≤_};
 ghost use Rattle.lines.specs.Words.{word};
 ghost use Rattle.lines.specs.Numbers.{wholeOf, signedOf};
-ghost use Rattle.lines.specs.Lines.{number32, numberOr, sampleAsked, readingAsked, registerAsked, withTime, timeOf, hasWords, askedOf, commandOf, asked, textMeans, lineMeans};
+ghost use Rattle.lines.specs.Lines.{number32, number8, numberOr, withTime, timeOf, hasWords, askedOf, commandOf, asked, textMeans, lineMeans};
 ghost use Rattle.lines.specs.Lines.{bad as Lines·bad};
 
 // What a line asks, or what is wrong with it.
@@ -27,7 +27,23 @@ pub enum Line {
     Image,
     Date(u32),
     Fleet,
+    // Length, chosen slots.
+    Profile(u32, Slots),
+    // Index, room.
+    Record(u32, u32),
     Wrong(Mistake),
+}
+
+// The chosen slots of a profile.
+pub struct Slots {
+    pub s0: u8,
+    pub s1: u8,
+    pub s2: u8,
+    pub s3: u8,
+    pub s4: u8,
+    pub s5: u8,
+    pub s6: u8,
+    pub s7: u8,
 }
 
 // What is wrong with a line.
@@ -52,6 +68,8 @@ pub enum Command {
     Image,
     Date,
     Fleet,
+    Profile,
+    Record,
 }
 
 // The numbers that lines have.
@@ -66,10 +84,14 @@ pub enum Parameter {
     Group,
     Number,
     Room,
+    Length,
+    Index,
+    // S0 to S7, by its number.
+    Slot(u8),
 }
 
 // The commands, in the order of their words in `command_of`.
-const COMMANDS: [Command; 9] = [
+const COMMANDS: [Command; 11] = [
     Command::Sample,
     Command::Start,
     Command::Set,
@@ -79,6 +101,8 @@ const COMMANDS: [Command; 9] = [
     Command::Image,
     Command::Date,
     Command::Fleet,
+    Command::Profile,
+    Command::Record,
 ];
 
 // What the first word of a line says.
@@ -97,7 +121,7 @@ enum Timed {
 fn command_of(first: &[u8]) -> First
     ensures { λ r. ⌜ r ≡ commandOf (now (first .entry)) ⌝ }
 {
-    let names = b"sample start set reading reset register image date fleet";
+    let names = b"sample start set reading reset register image date fleet profile record";
     for k in 0..COMMANDS.len() {
         if words::is(first, words::word(names, k)) {
             let command = COMMANDS[k];
@@ -113,6 +137,14 @@ fn number_at(text: &[u8], k: usize, most: u32) -> Number
 {
     let w = words::word(text, k);
     numbers::read_number(w, most)
+}
+
+// Word k as a number of 8 bits; 0 where it is none.
+fn byte_at(text: &[u8], k: usize) -> u8
+    ensures { λ r. ⌜ r ≡ number8 k (now (text .entry)) .value ⌝ }
+{
+    let n = number_at(text, k, 255);
+    n.value as u8
 }
 
 // Word k as a number; `other` where there is no such word.
@@ -153,95 +185,109 @@ fn with_time(what: Timed, time: u32) -> Line
     }
 }
 
-fn time_of(what: Timed, time: Number) -> Line
-    ensures { λ r. ⌜ r ≡ timeOf (withTime what) time ⌝ }
+fn time_line(what: Timed, text: &[u8]) -> Line
+    ensures { λ r. ⌜ r ≡ timeOf (withTime what) (number32 1 (now (text .entry))) ⌝ }
 {
+    let time = number_at(text, 1, 4294967295);
     if !time.ok {
         return bad(Parameter::Seconds);
     }
     with_time(what, time.value)
 }
 
-// Samples of which the bits and the count are read.
-fn sample_of(bits: Number, n: Number) -> Line
-    requires { ⌜ bits .value ≤ 65535 ⌝ }
-    ensures { λ r. ⌜ r ≡ sampleAsked bits n ⌝ }
+fn sample_line(text: &[u8]) -> Line
+    ensures { λ r. ⌜ r ≡ askedOf Command.Sample (now (text .entry)) ⌝ }
 {
+    let bits = number_at(text, 1, 65535);
     if !bits.ok {
         return bad(Parameter::Bits);
     }
+    let n = number_or(text, 2, 1);
     if !n.ok {
         return bad(Parameter::Count);
     }
     Line::Sample(bits.value as u16, n.value)
 }
 
-fn register_of(group: Number, number: Number, room: Number) -> Line
-    ensures { λ r. ⌜ r ≡ registerAsked group number room ⌝ }
+fn register_line(text: &[u8]) -> Line
+    ensures { λ r. ⌜ r ≡ askedOf Command.Register (now (text .entry)) ⌝ }
 {
+    let group = number_at(text, 1, 4294967295);
     if !group.ok {
         return bad(Parameter::Group);
     }
+    let number = number_at(text, 2, 4294967295);
     if !number.ok {
         return bad(Parameter::Number);
     }
+    let room = number_or(text, 3, 13);
     if !room.ok {
         return bad(Parameter::Room);
     }
     Line::Register(group.value, number.value, room.value)
 }
 
-fn reading_of(m: Number, v: Signed, s: Number, q: Number) -> Line
-    requires { ⌜ (m .value ≤ 255) × (s .value ≤ 255) × (q .value ≤ 255) ⌝ }
-    ensures { λ r. ⌜ r ≡ readingAsked m v s q ⌝ }
+fn reading_line(text: &[u8]) -> Line
+    ensures { λ r. ⌜ r ≡ askedOf Command.Reading (now (text .entry)) ⌝ }
 {
+    let m = number_at(text, 1, 255);
     if !m.ok {
         return bad(Parameter::Meter);
     }
+    let v = signed_at(text, 2);
     if !v.ok {
         return bad(Parameter::Value);
     }
+    let s = number_at(text, 3, 255);
     if !s.ok {
         return bad(Parameter::Status);
     }
+    let q = number_at(text, 4, 255);
     if !q.ok {
         return bad(Parameter::Seq);
     }
     Line::Reading(m.value as u8, v.value, s.value as u8, q.value as u8)
 }
 
-fn time_line(what: Timed, text: &[u8]) -> Line
-    ensures { λ r. ⌜ r ≡ timeOf (withTime what) (number32 1 (now (text .entry))) ⌝ }
+// The slots stand in the words 2 to 9.
+fn profile_line(text: &[u8]) -> Line
+    ensures { λ r. ⌜ r ≡ askedOf Command.Profile (now (text .entry)) ⌝ }
 {
-    let time = number_at(text, 1, 4294967295);
-    time_of(what, time)
+    let length = number_at(text, 1, 4294967295);
+    if !length.ok {
+        return bad(Parameter::Length);
+    }
+    for k in 0..8 {
+        let slot = number_at(text, k as usize + 2, 255);
+        if !slot.ok {
+            return bad(Parameter::Slot(k));
+        }
+    }
+    let slots = Slots {
+        s0: byte_at(text, 2),
+        s1: byte_at(text, 3),
+        s2: byte_at(text, 4),
+        s3: byte_at(text, 5),
+        s4: byte_at(text, 6),
+        s5: byte_at(text, 7),
+        s6: byte_at(text, 8),
+        s7: byte_at(text, 9),
+    };
+    Line::Profile(length.value, slots)
 }
 
-fn sample_line(text: &[u8]) -> Line
-    ensures { λ r. ⌜ r ≡ askedOf Command.Sample (now (text .entry)) ⌝ }
+fn record_line(text: &[u8]) -> Line
+    ensures { λ r. ⌜ r ≡ askedOf Command.Record (now (text .entry)) ⌝ }
 {
-    let bits = number_at(text, 1, 65535);
-    let n = number_or(text, 2, 1);
-    sample_of(bits, n)
-}
-
-fn register_line(text: &[u8]) -> Line
-    ensures { λ r. ⌜ r ≡ askedOf Command.Register (now (text .entry)) ⌝ }
-{
-    let group = number_at(text, 1, 4294967295);
-    let number = number_at(text, 2, 4294967295);
-    let room = number_or(text, 3, 13);
-    register_of(group, number, room)
-}
-
-fn reading_line(text: &[u8]) -> Line
-    ensures { λ r. ⌜ r ≡ askedOf Command.Reading (now (text .entry)) ⌝ }
-{
-    let m = number_at(text, 1, 255);
-    let v = signed_at(text, 2);
-    let s = number_at(text, 3, 255);
-    let q = number_at(text, 4, 255);
-    reading_of(m, v, s, q)
+    let index = number_at(text, 1, 4294967295);
+    if !index.ok {
+        return bad(Parameter::Index);
+    }
+    let room = number_or(text, 2, 69);
+    if !room.ok {
+        return bad(Parameter::Room);
+    }
+    Line::Record(index.value, room.value)
 }
 
 // How many words a line of a command has.
@@ -258,6 +304,8 @@ fn has_words(command: Command, count: usize) -> bool
         Command::Image => count == 1,
         Command::Date => count == 2,
         Command::Fleet => count == 1,
+        Command::Profile => count == 10,
+        Command::Record => (count == 2) | (count == 3),
     }
 }
 
@@ -275,6 +323,8 @@ fn ask(command: Command, text: &[u8]) -> Line
         Command::Image => Line::Image,
         Command::Date => time_line(Timed::Date, text),
         Command::Fleet => Line::Fleet,
+        Command::Profile => profile_line(text),
+        Command::Record => record_line(text),
     }
 }
 

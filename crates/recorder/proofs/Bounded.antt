@@ -27,12 +27,13 @@ use Rattle.sampling.specs.Periods.{multiple, begunAnew, clearedLines, tickOf}
 use Rattle.sampling.specs.Samples.{bookingOf, activeLines, bookingOn, putIn, countedOf, clockEnd, sampleOf}
 use Rattle.recorder.specs.Clock.{setTo, setDated, setOf, resetOf}
 use Rattle.recorder.specs.Meters.{readingOf}
-use Rattle.recorder.specs.Calls.{freshState}
-use Rattle.recorder.specs.History.{Call, sample, set as set-call, reading, reset, after, afterAll, freshStart}
+use Rattle.recorder.specs.Calls.{freshState, freshStart}
+use Rattle.recorder.specs.History.{Call, sample, set as set-call, reading, reset, after, afterAll}
 use Rattle.recorder.specs.Laws.{Sound, Good, Bounded, ReachedIsBounded, HoldNeverActs}
 use Rattle.counting.specs.declared.Line.{Line}
 use Rattle.sampling.specs.declared.State.{State}
 use Rattle.recorder.specs.declared.Recorder.{Recorder}
+use Rattle.recorder.specs.declared.Setup.{Setup}
 use Rattle.counting.proofs.Lines.{passed, passed-units, line-after}
 use Rattle.recorder.proofs.Sound.{cleared-at, config-stays, reached-is-sound}
 
@@ -238,14 +239,14 @@ unfolding freshState
 fresh-filled c w time = begun c _ w refl (λ i l. rw (getD-replicate 16 i noLine noLine l) refl)
 
 -- every state that calls can reach
-reached-filled : (c : Config) → Within c → (time : ℕ) (calls : List Call)
-    → Filled c (afterAll (freshStart c time) calls .state) (afterAll (freshStart c time) calls .state .samples)
+reached-filled : (setup : Setup) (length : ℕ) (c : Config) → Within c → (time : ℕ) (calls : List Call)
+    → Filled c (afterAll (freshStart setup length c time) calls .state) (afterAll (freshStart setup length c time) calls .state .samples)
 unfolding afterAll freshState
-reached-filled c w time [] = fresh-filled c w time
-reached-filled c w time (call ∷ earlier) =
-    let r = afterAll (freshStart c time) earlier in
-    let fixed = config-stays c time earlier in
-    rw fixed at (after-filled r call (rw fixed w) (rw fixed (reached-is-sound c time earlier)) (rw fixed (reached-filled c w time earlier)))
+reached-filled setup length c w time [] = fresh-filled c w time
+reached-filled setup length c w time (call ∷ earlier) =
+    let r = afterAll (freshStart setup length c time) earlier in
+    let fixed = config-stays setup length c time earlier in
+    rw fixed at (after-filled r call (rw fixed w) (rw fixed (reached-is-sound setup length c time earlier)) (rw fixed (reached-filled setup length c w time earlier)))
 
 -- the bound in the words of the law
 bounded : (c : Config) (s : State) → Within c → Sound c s → Filled c s (s .samples) → Bounded s
@@ -262,17 +263,17 @@ bounded c s w h f =
     }
 
 pub reached-is-bounded : ReachedIsBounded
-reached-is-bounded c good time calls =
+reached-is-bounded setup length c good time calls =
     let w = good-within c good in
-    bounded c (afterAll (freshStart c time) calls .state) w (reached-is-sound c time calls) (reached-filled c w time calls)
+    bounded c (afterAll (freshStart setup length c time) calls .state) w (reached-is-sound setup length c time calls) (reached-filled setup length c w time calls)
 
 pub hold-never-acts : HoldNeverActs
-hold-never-acts c good time calls i l =
-    let s = afterAll (freshStart c time) calls .state in
+hold-never-acts setup length c good time calls i l =
+    let s = afterAll (freshStart setup length c time) calls .state in
     let w = good-within c good in
-    let b = reached-is-bounded c good time calls in
+    let b = reached-is-bounded setup length c good time calls in
     let few = b .few in
     let units = b .units i l in
-    let more = few-units (inputAt (c .inputs) i) (lineAt (s .lines) i .remainder) (reached-is-sound c time calls .lines .remainders i l) in
+    let more = few-units (inputAt (c .inputs) i) (lineAt (s .lines) i .remainder) (reached-is-sound setup length c time calls .lines .remainders i l) in
     let numerator = w .numerators i l in
     rw (le-ltb 4_294_967_295 (lineAt (s .lines) i .units + unitsOf (inputAt (c .inputs) i) (lineAt (s .lines) i .remainder)) (omega arith)) refl

@@ -28,13 +28,17 @@ use Rattle.sampling.specs.Periods.{multiple, begunAnew, clearedLines, tickOf}
 use Rattle.sampling.specs.Samples.{bookingOf, activeLines, bookingOn, putIn, countedOf, clockEnd, sampleOf}
 use Rattle.recorder.specs.Clock.{setTo, setDated, setOf, closedBill, resetOf}
 use Rattle.recorder.specs.Meters.{readingOf}
-use Rattle.recorder.specs.Calls.{freshState}
-use Rattle.recorder.specs.History.{Call, sample, set as set-call, reading, reset, after, afterAll, freshStart}
-use Rattle.recorder.specs.Laws.{SoundLines, SoundBills, Sound, ReachedIsSound, ConfigStays}
+use Rattle.recorder.specs.Calls.{freshState, freshStart}
+use Rattle.recorder.specs.History.{Call, sample, set as set-call, reading, reset, after, afterAll}
+use Rattle.recorder.specs.Laws.{SoundLines, SoundBills, Sound, ReachedIsSound, StartStays}
 use Rattle.counting.specs.declared.Line.{Line}
 use Rattle.counting.specs.declared.Bill.{Bill}
 use Rattle.sampling.specs.declared.State.{State}
+use Rattle.profile.proofs.Puts.{same-length}
+use Rattle.sampling.specs.Closed.{closedBy}
+use Rattle.recorder.specs.Profile.{recordsOf, closedBySet}
 use Rattle.recorder.specs.declared.Recorder.{Recorder}
+use Rattle.recorder.specs.declared.Setup.{Setup}
 use Rattle.counting.proofs.Full.{not-full}
 use Rattle.counting.proofs.Lines.{passed-run, passed-remainder, line-after}
 
@@ -187,17 +191,27 @@ after-sound r (set-call time) h = dated-sound (r .config) (r .state) h time (mom
 after-sound r (reading meter value status seq) h = reading-sound (r .config) (r .state) h meter value status seq
 after-sound r reset h = reset-sound (r .config) (r .state) h
 
--- a call leaves the configuration
-after-config : (r : Recorder) (call : Call) → after r call .config ≡ r .config
-after-config r (sample bits) = refl
-after-config r (set-call time) = refl
-after-config r (reading meter value status seq) = refl
-after-config r reset = refl
+-- what a call leaves as the start had it
+abbrev Stays : Recorder → Recorder → Type 0
+Stays x y = (x .config ≡ y .config) × (x .setup ≡ y .setup) × (x .profile .length ≡ y .profile .length)
 
-pub config-stays : ConfigStays
+after-stays : (r : Recorder) (call : Call) → Stays (after r call) r
+after-stays r (sample bits) = (refl, refl, same-length (r .profile) (recordsOf (r .setup) (closedBy (r .config) (sampleOf (r .config) (r .state) bits))))
+after-stays r (set-call time) = (refl, refl, same-length (r .profile) (recordsOf (r .setup) (closedBySet (setOf (r .config) (r .state) time))))
+after-stays r (reading meter value status seq) = (refl, refl, refl)
+after-stays r reset = (refl, refl, refl)
+
+pub start-stays : StartStays
 unfolding afterAll
-config-stays c time [] = refl
-config-stays c time (call ∷ earlier) = after-config (afterAll (freshStart c time) earlier) call ∙ config-stays c time earlier
+start-stays setup length c time [] = (refl, refl, refl)
+start-stays setup length c time (call ∷ earlier) =
+    let now = after-stays (afterAll (freshStart setup length c time) earlier) call in
+    let before = start-stays setup length c time earlier in
+    (now .0 ∙ before .0, now .1 ∙ before .1, now .2 ∙ before .2)
+
+-- the configuration
+pub config-stays : (setup : Setup) (length : ℕ) (c : Config) (time : ℕ) (calls : List Call) → afterAll (freshStart setup length c time) calls .config ≡ c
+config-stays setup length c time calls = start-stays setup length c time calls .0
 
 -- a line with nothing on it
 abbrev noLine : Line
@@ -224,8 +238,8 @@ fresh-sound c time =
 
 pub reached-is-sound : ReachedIsSound
 unfolding afterAll
-reached-is-sound c time [] = fresh-sound c time
-reached-is-sound c time (call ∷ earlier) =
-    let r = afterAll (freshStart c time) earlier in
-    let fixed = config-stays c time earlier in
-    rw fixed at (after-sound r call (rw fixed (reached-is-sound c time earlier)))
+reached-is-sound setup length c time [] = fresh-sound c time
+reached-is-sound setup length c time (call ∷ earlier) =
+    let r = afterAll (freshStart setup length c time) earlier in
+    let fixed = config-stays setup length c time earlier in
+    rw fixed at (after-sound r call (rw fixed (reached-is-sound setup length c time earlier)))

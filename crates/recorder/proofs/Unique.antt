@@ -1,12 +1,17 @@
 -- No second result fits the contract of a public function of the recorder.
 use mathlib.Core.Path.{_≡_, refl, sym, ap, _∙_}
+use mathlib.Core.List.{List}
 use Prim.Native.Nat.{ℕ}
+use denote.Ref.{now}
 use lib.Dec.{eqb}
 use Rattle.laws.specs.Answers.{Answer, given, refused, Reply, RunReply}
 use Rattle.laws.specs.If.{if_then_else_}
-use Rattle.laws.specs.Unique.{OneResult}
+use Rattle.laws.specs.Unique.{OneResult, OneExit}
 use Rattle.laws.proofs.Unique.{told-apart}
+use Rattle.profile.specs.Reading.{RecordReply}
+use Rattle.profile.proofs.Unique.{record-apart}
 use Rattle.sampling.proofs.Unique.{sample-apart}
+use Rattle.recorder.specs.Profile.{WithBuffer, withBuffer}
 use Rattle.recorder.specs.Meters.{ageNumber, ageSaid}
 use Rattle.recorder.specs.Calls.{StartAnswered, startNumber, setNumber, readingNumber}
 use Rattle.recorder.specs.declared.Recorder.{Recorder}
@@ -26,6 +31,7 @@ use Rattle.recorder.proofs.Recorder.samples.Reads as samples-reads
 use Rattle.recorder.proofs.Recorder.set_clock.Reads as set-clock-reads
 use Rattle.recorder.proofs.Recorder.reading.Reads as reading-reads
 use Rattle.recorder.proofs.Recorder.reset_bills.Reads as reset-bills-reads
+use Rattle.recorder.proofs.Recorder.read_record.Reads as read-record-reads
 use Rattle.recorder.proofs.meters.age_class.Reads as age-class-reads
 use Rattle.recorder.proofs.meters.age_answer.Reads as age-answer-reads
 
@@ -34,10 +40,11 @@ pub set-apart : (x y : SetAnswer) → setNumber x ≡ setNumber y → x ≡ y
 set-apart = told-apart setNumber back told
   where
     back : ℕ → SetAnswer
-    back n = if eqb n 9 then set.NoDate else set.Set
+    back n = if eqb n 14 then set.ProfileBuffer else if eqb n 9 then set.NoDate else set.Set
 
     told : (x : SetAnswer) → back (setNumber x) ≡ x
     told set.Set = refl
+    told set.ProfileBuffer = refl
     told set.NoDate = refl
 
 -- all answers to a reading
@@ -84,7 +91,8 @@ start-apart = told-apart startNumber back told
   where
     numbered : ℕ → ℕ → StartAnswer
     numbered n offset =
-        if eqb n 1 then start.Length else if eqb n 2 then start.Mark else if eqb n 3 then start.Version
+        if eqb n 14 then start.ProfileBuffer else if eqb n 8 then start.NotFitted
+        else if eqb n 1 then start.Length else if eqb n 2 then start.Mark else if eqb n 3 then start.Version
         else if eqb n 4 then start.Value offset else start.NoDate
 
     back : Answer (Unit {0}) → StartAnswer
@@ -93,6 +101,8 @@ start-apart = told-apart startNumber back told
 
     told : (x : StartAnswer) → back (startNumber x) ≡ x
     told start.Started = refl
+    told start.ProfileBuffer = refl
+    told start.NotFitted = refl
     told start.Length = refl
     told start.Mark = refl
     told start.Version = refl
@@ -106,27 +116,44 @@ start-once κs a x y e f p q =
     let recorder = ap (λ (r : StartAnswered). r .recorder) s in
     (λ i. record { answer = answer i; recorder = recorder i })
 
+-- of two replies with the buffer after them that are the same, the replies are, and the buffers
+reply-same : {A : Type 0} {x y : A} {b d : List ℕ} → withBuffer x b ≡ withBuffer y d → x ≡ y
+reply-same {A} e = ap (λ (r : WithBuffer A). r .reply) e
+
+buffer-same : {A : Type 0} {x y : A} {b d : List ℕ} → withBuffer x b ≡ withBuffer y d → b ≡ d
+buffer-same {A} e = ap (λ (r : WithBuffer A). r .buffer) e
+
 pub sample-once : OneResult sample-reads.Post
 sample-once κs a x y e f p q =
-    let s = p ∙ sym q in
+    let s = reply-same (p ∙ sym q) in
     let answer = sample-apart (x .answer) (y .answer) (ap (λ (r : Reply Recorder). r .number) s) in
     let recorder = ap (λ (r : Reply Recorder). r .after) s in
     (λ i. record { answer = answer i; recorder = recorder i })
 
+-- the buffer is the third parameter
+pub sample-exit : OneExit (λ κs e. now (e .1 .1 .0)) sample-reads.Post
+sample-exit κs a x y e f p q = buffer-same (p ∙ sym q)
+
 pub samples-once : OneResult samples-reads.Post
 samples-once κs a x y e f p q =
-    let s = p ∙ sym q in
+    let s = reply-same (p ∙ sym q) in
     let taken = ap (λ (r : RunReply Recorder). r .taken) s in
     let answer = sample-apart (x .answer) (y .answer) (ap (λ (r : RunReply Recorder). r .number) s) in
     let recorder = ap (λ (r : RunReply Recorder). r .after) s in
     (λ i. record { taken = taken i; answer = answer i; recorder = recorder i })
 
+pub samples-exit : OneExit (λ κs e. now (e .1 .1 .0)) samples-reads.Post
+samples-exit κs a x y e f p q = buffer-same (p ∙ sym q)
+
 pub set-clock-once : OneResult set-clock-reads.Post
 set-clock-once κs a x y e f p q =
-    let s = p ∙ sym q in
+    let s = reply-same (p ∙ sym q) in
     let answer = set-apart (x .answer) (y .answer) (ap (λ (r : Reply Recorder). r .number) s) in
     let recorder = ap (λ (r : Reply Recorder). r .after) s in
     (λ i. record { answer = answer i; recorder = recorder i })
+
+pub set-clock-exit : OneExit (λ κs e. now (e .1 .1 .0)) set-clock-reads.Post
+set-clock-exit κs a x y e f p q = buffer-same (p ∙ sym q)
 
 pub reading-once : OneResult reading-reads.Post
 reading-once κs a x y e f p q =
@@ -143,3 +170,10 @@ age-class-once κs a x y e f p q = age-apart x y (p ∙ sym q)
 
 pub age-answer-once : OneResult age-answer-reads.Post
 age-answer-once κs a x y e f p q = age-answer-apart x y (p ∙ sym q)
+
+pub read-record-once : OneResult read-record-reads.Post
+read-record-once κs a x y e f p q = record-apart x y (ap (λ (r : RecordReply). r .answer) (p ∙ sym q))
+
+-- the result is the fourth parameter
+pub read-record-exit : OneExit (λ κs e. now (e .1 .1 .1 .0)) read-record-reads.Post
+read-record-exit κs a x y e f p q = ap (λ (r : RecordReply). r .result) (p ∙ sym q)

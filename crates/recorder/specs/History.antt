@@ -2,8 +2,7 @@
 use mathlib.Core.List.{List, [], _∷_}
 use Prim.Native.Nat.{ℕ}
 use lib.IntN.{ℤ}
-use Rattle.settings.specs.declared.Config.{Config}
-use Rattle.recorder.specs.Calls.{freshState, sampleReply, setReply, readingReply, resetReply}
+use Rattle.recorder.specs.Calls.{sampleReply, setReply, readingReply, resetReply}
 use Rattle.recorder.specs.declared.Recorder.{Recorder}
 
 -- a call on a recorder that has started
@@ -13,7 +12,7 @@ pub data Call : Type 0 where
   reading : ℕ → ℤ → ℕ → ℕ → Call
   reset : Call
 
--- the recorder after a call; a refused one leaves it
+-- the recorder after a call, lent a buffer as long as at the start where it is lent one; a refused one leaves it
 abbrev pub after : Recorder → Call → Recorder
 after r (sample bits) = sampleReply r bits .after
 after r (set time) = setReply r time .after
@@ -24,7 +23,3 @@ after r reset = resetReply r
 unfoldable pub afterAll : Recorder → List Call → Recorder
 afterAll r [] = r
 afterAll r (call ∷ earlier) = after (afterAll r earlier) call
-
--- a fresh start with a configuration at a time
-abbrev pub freshStart : Config → ℕ → Recorder
-freshStart c time = record { config = c; state = freshState time }

@@ -10,10 +10,12 @@ use Rattle.settings.specs.declared.Input.{Input}
 use Rattle.counting.specs.Filter.{inputAt, lineAt}
 use Rattle.counting.specs.Units.{unitsOf, heldSum}
 use Rattle.counting.specs.Bills.{billAt}
-use Rattle.recorder.specs.History.{Call, afterAll, freshStart}
+use Rattle.recorder.specs.Calls.{freshStart}
+use Rattle.recorder.specs.History.{Call, afterAll}
 use Rattle.counting.specs.declared.Line.{Line}
 use Rattle.counting.specs.declared.Bill.{Bill}
 use Rattle.sampling.specs.declared.State.{State}
+use Rattle.recorder.specs.declared.Setup.{Setup}
 
 -- sixteen lines, each with a run of at most 256 and a remainder below its denominator
 pub record SoundLines (inputs : List Input) (lines : List Line) : Type 0 where
@@ -35,11 +37,14 @@ pub record Sound (c : Config) (s : State) : Type 0 where
 
 -- every state that calls can reach from a fresh start is sound
 abbrev pub ReachedIsSound : Type 0
-ReachedIsSound = (c : Config) (time : ℕ) (calls : List Call) → Sound c (afterAll (freshStart c time) calls .state)
+ReachedIsSound =
+    (setup : Setup) (length : ℕ) (c : Config) (time : ℕ) (calls : List Call) → Sound c (afterAll (freshStart setup length c time) calls .state)
 
--- the configuration is fixed from the start on
-abbrev pub ConfigStays : Type 0
-ConfigStays = (c : Config) (time : ℕ) (calls : List Call) → afterAll (freshStart c time) calls .config ≡ c
+-- the configuration is fixed from the start on, and what else it was given, and the length of the buffer
+abbrev pub StartStays : Type 0
+StartStays =
+    (setup : Setup) (length : ℕ) (c : Config) (time : ℕ) (calls : List Call) →
+    let r = afterAll (freshStart setup length c time) calls in (r .config ≡ c) × (r .setup ≡ setup) × (r .profile .length ≡ length)
 
 -- each entry of a configuration keeps its rule, as `image` proves of one that an accepted image gives
 abbrev pub Good : Config → Type 0
@@ -57,11 +62,12 @@ pub record Bounded (s : State) : Type 0 where
 
 -- every state that calls can reach with a good configuration keeps it
 abbrev pub ReachedIsBounded : Type 0
-ReachedIsBounded = (c : Config) → Good c → (time : ℕ) (calls : List Call) → Bounded (afterAll (freshStart c time) calls .state)
+ReachedIsBounded =
+    (setup : Setup) (length : ℕ) (c : Config) → Good c → (time : ℕ) (calls : List Call) → Bounded (afterAll (freshStart setup length c time) calls .state)
 
 -- so the hold of level 0 never acts: an impulse adds its units to level 0, all of them
 abbrev pub HoldNeverActs : Type 0
 HoldNeverActs =
-    (c : Config) → Good c → (time : ℕ) (calls : List Call) (i : ℕ) → i < 16
-    → let line = lineAt (afterAll (freshStart c time) calls .state .lines) i in
+    (setup : Setup) (length : ℕ) (c : Config) → Good c → (time : ℕ) (calls : List Call) (i : ℕ) → i < 16
+    → let line = lineAt (afterAll (freshStart setup length c time) calls .state .lines) i in
     let more = unitsOf (inputAt (c .inputs) i) (line .remainder) in heldSum (line .units) more ≡ line .units + more

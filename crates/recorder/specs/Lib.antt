@@ -1,6 +1,7 @@
--- Document 01's paragraphs on samples, impulses, units, periods, bills and serial meters.
+-- Document 01's paragraphs on samples, impulses, units, periods, bills and serial meters, and the load profile.
 pub mod Meters
 pub mod Clock
+pub mod Profile
 pub mod Calls
 pub mod History
 pub mod Cases

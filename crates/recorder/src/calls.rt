@@ -1,25 +1,31 @@
 // Clock set, reading and billing reset, on the configuration and the state.
 use crate::Bill;
 use crate::Meter;
+use crate::Setup;
 use crate::State;
+use crate::samples::keep;
 use calendar::Dated;
 use image::Config;
 use image::Register;
-use sampling::clock::cleared;
-use sampling::clock::close_period;
+use profile::Profile;
+use sampling::clock::close_with;
 ghost use mathlib.Core.Path.{_≡_};
 ghost use Rattle.laws.specs.Answers.{replyTo};
+ghost use Rattle.profile.specs.Room.{kept, withRecords};
+ghost use Rattle.recorder.specs.Profile.{recordsOf, closedBySet};
 ghost use Rattle.recorder.specs.Clock.{setTo, setOf, closedBill, resetOf};
 ghost use Rattle.recorder.specs.Meters.{readingOf};
 ghost use Rattle.recorder.specs.Calls.{setSaid, readingSaid};
 
 pub enum SetAnswer {
     Set,
+    ProfileBuffer,
     NoDate,
 }
 
 pub struct Setting {
     pub state: State,
+    pub profile: Profile,
     pub answer: SetAnswer,
 }
 
@@ -39,31 +45,36 @@ pub struct Reading {
 fn set_to(config: Config, state: State, time: u32) -> State
     ensures { λ r. ⌜ r ≡ setTo config state time ⌝ }
 {
-    let lines = state.lines;
-    let closed = close_period(config, 1, state.clock, lines);
-    let fresh = cleared(lines);
-    let mut next = state;
+    let mut next = close_with(config, state, 1, state.clock, time);
     next.clock = time;
     next.samples = 0;
-    next.first = time;
-    next.lines = fresh;
-    next.closed = closed;
     next
 }
 
-pub(crate) fn set(config: Config, state: State, time: u32) -> Setting
-    ensures { λ r. ⌜ setSaid r ≡ replyTo state (setOf config state time) ⌝ }
+pub(crate) fn set(
+    config: Config,
+    setup: Setup,
+    state: State,
+    profile: Profile,
+    time: u32,
+    buffer: &mut [u8],
+) -> Setting
+    ensures clock { λ r. ⌜ setSaid r ≡ replyTo state (setOf config state time) ⌝ }
+    ensures records { λ r. ⌜ kept (r .profile) (now (buffer .exit)) ≡ withRecords (kept profile (now (buffer .entry))) (recordsOf setup (closedBySet (setOf config state time))) ⌝ }
 {
     match calendar::moment_of(time) {
         Dated::On(_) => {
             let next = set_to(config, state, time);
+            let period = next.closed;
             Setting {
                 answer: SetAnswer::Set,
+                profile: keep(setup, profile, period, buffer),
                 state: next,
             }
         }
         Dated::NoDate => Setting {
             answer: SetAnswer::NoDate,
+            profile,
             state,
         },
     }

@@ -1,6 +1,7 @@
 // The recorder: what is fixed, what moves, and the calls that move it.
 mod calls;
 mod meters;
+mod samples;
 
 use calendar::Dated;
 pub use calls::ReadingAnswer;
@@ -16,24 +17,44 @@ pub use meters::Age;
 pub use meters::AgeAnswer;
 pub use meters::age_answer;
 pub use meters::age_class;
+pub use profile::Profile;
+pub use profile::RecordAnswer;
+use profile::legal_length;
+use profile::slots_fit;
+use samples::keep;
+use samples::one;
 pub use sampling::Meter;
 pub use sampling::Period;
 pub use sampling::SampleAnswer;
 pub use sampling::State;
-use sampling::samples::one;
-use sampling::samples::run;
+use sampling::clock::close;
+use sampling::samples::take;
 ghost use mathlib.Core.Path.{_≡_};
+ghost use lib.ListN.{length};
 ghost use Rattle.calendar.specs.Moments.{momentOf};
-ghost use Rattle.recorder.specs.Calls.{freshState, blankRecorder, startSaid, refusedStart, startDated, startReply, sampledSaid, sampleReply, runSaid, samplesReply, clockSetSaid, setReply, meterReadSaid, readingReply, resetReply};
+ghost use Rattle.profile.specs.Room.{freshProfile};
+ghost use Rattle.profile.specs.Reading.{recordReplied, recordReply};
+ghost use Rattle.recorder.specs.Profile.{withBuffer};
+ghost use Rattle.recorder.specs.Calls.{freshState, freshStart, blankRecorder, startSaid, refusedStart, startDated, startFrom, startReply, sampledSaid, sampleLent, runSaid, samplesLent, clockSetSaid, setLent, meterReadSaid, readingReply, resetReply};
+ghost use Rattle.image.specs.Answers.{imageAnswer, imageConfig};
 
-// What is fixed from the start on, and what moves.
+// What else a start is given: the eight chosen slots of the load profile.
+pub struct Setup {
+    pub slots: [u8; 8],
+}
+
+// What is fixed from the start on, what moves, and where the records of the load profile stand in the buffer that is lent to the calls.
 pub struct Recorder {
     pub state: State,
     pub config: Config,
+    pub setup: Setup,
+    pub profile: Profile,
 }
 
 pub enum StartAnswer {
     Started,
+    ProfileBuffer,
+    NotFitted,
     Length,
     Mark,
     Version,
@@ -108,12 +129,29 @@ fn fresh_state(time: u32) -> State
     }
 }
 
+// A profile with no record, for a buffer of a length.
+fn fresh_profile(length: usize) -> Profile
+    ensures { λ r. ⌜ r ≡ freshProfile length ⌝ }
+{
+    Profile {
+        length,
+        next: 0,
+        held: 0,
+    }
+}
+
 fn blank_recorder() -> Recorder
     ensures { λ r. ⌜ r ≡ blankRecorder ⌝ }
 {
     let config = image::blank_config();
     let state = fresh_state(0);
-    Recorder { config, state }
+    let setup = Setup { slots: [0; 8] };
+    Recorder {
+        config,
+        setup,
+        state,
+        profile: fresh_profile(0),
+    }
 }
 
 // A refused start hands back the blank recorder.
@@ -125,13 +163,18 @@ fn refuse_start(answer: StartAnswer) -> Start
 }
 
 // A fresh recorder, if the time has a date.
-fn start_at(config: Config, time: u32) -> Start
-    ensures { λ r. ⌜ startSaid r ≡ startDated (momentOf time) config time ⌝ }
+fn start_at(setup: Setup, length: usize, config: Config, time: u32) -> Start
+    ensures { λ r. ⌜ startSaid r ≡ startDated (momentOf time) setup length config time ⌝ }
 {
     match calendar::moment_of(time) {
         Dated::On(_) => {
             let state = fresh_state(time);
-            let recorder = Recorder { config, state };
+            let recorder = Recorder {
+                config,
+                setup,
+                state,
+                profile: fresh_profile(length),
+            };
             Start {
                 answer: StartAnswer::Started,
                 recorder,
@@ -141,71 +184,125 @@ fn start_at(config: Config, time: u32) -> Start
     }
 }
 
-impl Recorder {
-    // A fresh recorder from an image and a time.
-    pub fn start(bytes: &[u8], time: u32) -> Start
-        ensures { λ r. ⌜ startSaid r ≡ startReply (now (bytes .entry)) time ⌝ }
-    {
-        let image = image::read_image(bytes);
-        let answer = image.answer;
-        match answer {
-            ImageAnswer::Accepted => {
-                let config = image.config;
-                start_at(config, time)
-            }
-            ImageAnswer::Length => refuse_start(StartAnswer::Length),
-            ImageAnswer::Mark => refuse_start(StartAnswer::Mark),
-            ImageAnswer::Version => refuse_start(StartAnswer::Version),
-            ImageAnswer::Value(offset) => refuse_start(StartAnswer::Value(offset)),
+// A fresh recorder, if the image is accepted.
+fn start_from(setup: Setup, length: usize, bytes: &[u8], time: u32) -> Start
+    ensures { λ r. ⌜ startSaid r ≡ startFrom (imageAnswer (now (bytes .entry))) setup length (imageConfig (now (bytes .entry))) time ⌝ }
+{
+    let image = image::read_image(bytes);
+    let answer = image.answer;
+    match answer {
+        ImageAnswer::Accepted => {
+            let config = image.config;
+            start_at(setup, length, config, time)
         }
+        ImageAnswer::Length => refuse_start(StartAnswer::Length),
+        ImageAnswer::Mark => refuse_start(StartAnswer::Mark),
+        ImageAnswer::Version => refuse_start(StartAnswer::Version),
+        ImageAnswer::Value(offset) => refuse_start(StartAnswer::Value(offset)),
+    }
+}
+
+impl Recorder {
+    // A fresh recorder from an image and a time, with the chosen slots. The buffer for records is only lent for its length: nothing is written into it yet.
+    pub fn start(bytes: &[u8], time: u32, setup: Setup, buffer: &[u8]) -> Start
+        ensures { λ r. ⌜ startSaid r ≡ startReply setup (length (now (buffer .entry))) (now (bytes .entry)) time ⌝ }
+    {
+        let length = buffer.len();
+        if !legal_length(length) {
+            return refuse_start(StartAnswer::ProfileBuffer);
+        }
+        let slots = setup.slots;
+        if !slots_fit(slots) {
+            return refuse_start(StartAnswer::NotFitted);
+        }
+        start_from(setup, length, bytes, time)
     }
 
-    pub fn sample(self, bits: u16) -> Sampled
-        ensures { λ r. ⌜ sampledSaid r ≡ sampleReply self bits ⌝ }
+    pub fn sample(self, bits: u16, buffer: &mut [u8]) -> Sampled
+        ensures { λ r. ⌜ withBuffer (sampledSaid r) (now (buffer .exit)) ≡ sampleLent self bits (now (buffer .entry)) ⌝ }
     {
+        let profile = self.profile;
+        if !profile.as_at_start(buffer.len()) {
+            return Sampled {
+                answer: SampleAnswer::ProfileBuffer,
+                recorder: self,
+            };
+        }
         let config = self.config;
+        let setup = self.setup;
         let state = self.state;
-        let taking = one(config, state, bits);
+        let taking = one(config, setup, state, profile, bits, buffer);
         let next = taking.state;
+        let records = taking.profile;
         let answer = taking.answer;
         let recorder = Recorder {
             config,
+            setup,
             state: next,
+            profile: records,
         };
         Sampled { answer, recorder }
     }
 
-    // The samples in order, up to the first refusal: `sample` one after another.
-    pub fn samples(self, bits: &[u16]) -> SampleRun
-        ensures { λ r. ⌜ runSaid r ≡ samplesReply self (now (bits .entry)) ⌝ }
+    // The samples in order, up to the first refusal: `sample` one after another, lap after lap with the closings between them.
+    pub fn samples(self, bits: &[u16], buffer: &mut [u8]) -> SampleRun
+        ensures { λ r. ⌜ withBuffer (runSaid r) (now (buffer .exit)) ≡ samplesLent self (now (bits .entry)) (now (buffer .entry)) ⌝ }
     {
         let config = self.config;
-        let state = self.state;
-        let taking = run(config, state, bits);
-        let next = taking.state;
-        let answer = taking.answer;
+        let setup = self.setup;
+        let mut now = self.state;
+        let mut records = self.profile;
+        let mut k: usize = 0;
+        let mut answer = SampleAnswer::ProfileBuffer;
+        if records.as_at_start(buffer.len()) {
+            loop {
+                let lap = take(config, now, &bits[k..]);
+                now = lap.state;
+                answer = lap.answer;
+                k += lap.taken;
+                if !lap.closes {
+                    break;
+                }
+                now = close(config, now);
+                let period = now.closed;
+                records = keep(setup, records, period, buffer);
+            }
+        }
         let recorder = Recorder {
             config,
-            state: next,
+            setup,
+            state: now,
+            profile: records,
         };
         SampleRun {
-            taken: taking.taken,
+            taken: k,
             answer,
             recorder,
         }
     }
 
-    pub fn set_clock(self, seconds: u32) -> ClockSet
-        ensures { λ r. ⌜ clockSetSaid r ≡ setReply self seconds ⌝ }
+    pub fn set_clock(self, seconds: u32, buffer: &mut [u8]) -> ClockSet
+        ensures { λ r. ⌜ withBuffer (clockSetSaid r) (now (buffer .exit)) ≡ setLent self seconds (now (buffer .entry)) ⌝ }
     {
+        let profile = self.profile;
+        if !profile.as_at_start(buffer.len()) {
+            return ClockSet {
+                answer: SetAnswer::ProfileBuffer,
+                recorder: self,
+            };
+        }
         let config = self.config;
+        let setup = self.setup;
         let state = self.state;
-        let setting = set(config, state, seconds);
+        let setting = set(config, setup, state, profile, seconds, buffer);
         let next = setting.state;
+        let records = setting.profile;
         let answer = setting.answer;
         let recorder = Recorder {
             config,
+            setup,
             state: next,
+            profile: records,
         };
         ClockSet { answer, recorder }
     }
@@ -216,12 +313,10 @@ impl Recorder {
         let config = self.config;
         let state = self.state;
         let reading = read(config, state, meter, value, status, seq);
-        let next = reading.state;
         let answer = reading.answer;
-        let recorder = Recorder {
-            config,
-            state: next,
-        };
+        let mut recorder = self;
+        let next = reading.state;
+        recorder.state = next;
         MeterRead { answer, recorder }
     }
 
@@ -231,9 +326,16 @@ impl Recorder {
         let config = self.config;
         let state = self.state;
         let next = reset(config, state);
-        Recorder {
-            config,
-            state: next,
-        }
+        let mut recorder = self;
+        recorder.state = next;
+        recorder
+    }
+
+    // Reads a record of the load profile into the first 69 bytes of a result, the oldest with index 0.
+    pub fn read_record(self, index: u32, buffer: &[u8], result: &mut [u8]) -> RecordAnswer
+        ensures { λ r. ⌜ recordReplied r (now (result .exit)) ≡ recordReply (self .profile) index (now (buffer .entry)) (now (result .entry)) ⌝ }
+    {
+        let profile = self.profile;
+        profile.read(index, buffer, result)
     }
 }

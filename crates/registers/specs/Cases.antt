@@ -30,6 +30,8 @@ abbrev heardAt1000 : ℕ → Recorder
 heardAt1000 clock =
     record {
       config = oneMeter;
+      setup = record { slots = replicate 8 0 };
+      profile = record { length = 69; next = 0; held = 0 };
       state =
           record {
             clock = clock;

@@ -20,6 +20,7 @@ use Rattle.tariff.specs.declared.Program.{Program}
 use Rattle.settings.specs.declared.Config.{Config}
 use Rattle.counting.specs.declared.Bill.{Bill}
 use Rattle.counting.specs.declared.Line.{Line}
+use Rattle.profile.specs.Records.{valueAt}
 use Rattle.sampling.specs.declared.Meter.{Meter}
 use Rattle.sampling.specs.declared.State.{State}
 use Rattle.registers.specs.Fleet.{meterAt, classAt}
@@ -69,10 +70,6 @@ unfoldable pub level9Bytes : ℕ → ℕ → ℤ → List ℕ
 level9Bytes state stamp value =
     if eqb state 0 then replicate 13 0
     else bytesOf 1 state ++ (bytesOf 4 stamp ++ bytesOf 8 (ofZ w64 value))
-
--- the value of slot i in the last closed period
-abbrev pub valueAt : List ℤ → ℕ → ℤ
-valueAt values i = getD values i (pos 0)
 
 -- the register of slot i
 unfoldable pub levelBytes : State → ℕ → List ℕ

@@ -5,10 +5,10 @@ use crate::fleet::NEVER;
 use crate::fleet::fleet_of;
 use crate::fleet::meter_class;
 use crate::numbers::bits32;
-use crate::numbers::bits64;
 use crate::numbers::with_number;
 use calendar::Dated;
 use image::Config;
+use profile::bits64;
 use recorder::Bill;
 use recorder::Line;
 use recorder::Meter;
@@ -17,7 +17,8 @@ use recorder::State;
 use tariff::Program;
 ghost use mathlib.Core.Path.{_≡_};
 ghost use Prim.Native.Nat.{_<_};
-ghost use Rattle.registers.specs.Contents.{padded, statusShown, serialBytes, mapBytes, resultBytes, dailyBytes, weeklyBytes, valueAt, level9Bytes, billBytes, filterBytes, fleetBytes, clockBytes, meterBytes, levelBytes};
+ghost use Rattle.profile.specs.Records.{valueAt};
+ghost use Rattle.registers.specs.Contents.{padded, statusShown, serialBytes, mapBytes, resultBytes, dailyBytes, weeklyBytes, level9Bytes, billBytes, filterBytes, fleetBytes, clockBytes, meterBytes, levelBytes};
 ghost use Rattle.registers.specs.Registers.{registersOf, contentsOf};
 
 // IV is the lowest bit: set unless the meter is awake.

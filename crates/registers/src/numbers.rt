@@ -2,7 +2,7 @@
 ghost use mathlib.Core.Path.{_≡_};
 ghost use Prim.Native.Nat.{_+_, _≤_};
 ghost use lib.Seq.{sets};
-ghost use mir.Syntax.{w32, w64};
+ghost use mir.Syntax.{w32};
 ghost use mir.Val.{ofZ};
 ghost use Rattle.laws.specs.Bytes.{bytesOf};
 
@@ -11,12 +11,6 @@ pub(crate) fn bits32(z: i32) -> u32
     ensures { λ r. ⌜ r ≡ ofZ w32 z ⌝ }
 {
     if z < 0 { !((!z) as u32) } else { z as u32 }
-}
-
-pub(crate) fn bits64(z: i64) -> u64
-    ensures { λ r. ⌜ r ≡ ofZ w64 z ⌝ }
-{
-    if z < 0 { !((!z) as u64) } else { z as u64 }
 }
 
 // The number x in the n bytes from a place on.

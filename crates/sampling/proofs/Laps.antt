@@ -1,13 +1,13 @@
--- Runs of samples that end at a closing: how one goes on, and that such runs with the closings between them are the whole run.
-use mathlib.Core.Path.{_≡_, refl, sym, _∙_}
+-- Runs of samples that end at a closing: how one goes on, and that such runs with the closings between them are the whole run, with the periods that it closes.
+use mathlib.Core.Path.{_≡_, refl, sym, ap, _∙_}
 use mathlib.Core.Bool.{Bool, true, false, true≢false}
-use mathlib.Core.List.{List, [], _∷_}
+use mathlib.Core.List.{List, [], _∷_, _++_}
 use Prim.Native.Nat.{ℕ, suc, _+_, _<_, _≤_, zero-le}
 use native.Mathlib.Nat.{add-zero, le-antisymm}
 use native.Mathlib.Numerals.{add-one}
 use native.Mathlib.Omega.{arith}
 use lib.Dec.{leb}
-use lib.ListN.{length, getD, drop}
+use lib.ListN.{length, getD, drop, drop-of-length-le}
 use lib.Seq.{drop-cons, drop-length}
 use borrow.Author.Tests.{ne-eqb}
 use Rattle.laws.specs.If.{if_then_else_}
@@ -17,6 +17,8 @@ use Rattle.settings.specs.declared.Config.{Config}
 use Rattle.sampling.specs.Periods.{multiple, tickOf}
 use Rattle.sampling.specs.Samples.{bookingOn, countedOf, clockEnd, sampleOf, onward, samplesOf}
 use Rattle.sampling.specs.Laps.{countedOpen, sampleOpen, closing, closedHere, LapReply, oneMoreTaken, lapOn, lapOf}
+use Rattle.sampling.specs.Closed.{closedBy, closedOn, closedIn}
+use Rattle.sampling.specs.declared.Period.{Period}
 use Rattle.sampling.specs.declared.State.{State}
 
 -- the samples of a run that went before, counted in
@@ -148,6 +150,40 @@ module _ (c : Config) (s : State) (bits : List ℕ) (t : LapReply) (is : lapOf c
   pub run-closes : t .closes ≡ true → samplesOf c s bits ≡ later (t .taken) (samplesOf c (closedHere c (t .state)) (drop (t .taken) bits))
   run-closes e = by-laps c s bits ∙ rw (is, e)
 
+-- a period that closed has closed: the state is at the same second
+still-closing : (c : Config) (s : State) → closing c (closedHere c s) ≡ closing c s
+unfolding closedHere
+still-closing c s = refl
+
+-- the periods of a run, given those of a run to the first closing
+abbrev closedAfter : Config → List ℕ → LapReply → List Period
+closedAfter c bits t =
+    if t .closes then closedHere c (t .state) .closed ∷ closedIn c (closedHere c (t .state)) (drop (t .taken) bits) else []
+
+-- a run goes on after its first sample, with the period that it closes
+first-closed : (c : Config) (s : State) (b : ℕ) (more : List ℕ) → ((n : State) → closedIn c n more ≡ closedAfter c more (lapOf c n more)) → (a : Answer State)
+    → closedBy c (closedAnswer c a) ++ closedOn (closedAnswer c a) (λ n. closedIn c n more) ≡ closedAfter c (b ∷ more) (lapOn c s a (λ n. lapOf c n more))
+first-closed c s b more on (refused n offset) = refl
+first-closed c s b more on (given next) =
+    by-test (closing c next)
+    (λ e. rw (e, still-closing c next ∙ e))
+    (λ e. rw (e, e) (on next))
+
+-- the periods of a run are that of its first closing, and those of the rest
+closed-by-laps : (c : Config) (s : State) (bits : List ℕ) → closedIn c s bits ≡ closedAfter c bits (lapOf c s bits)
+unfolding closedIn lapOf
+closed-by-laps c s [] = refl
+closed-by-laps c s (b ∷ more) = rw (sample-closes c s b) (first-closed c s b more (λ n. closed-by-laps c n more) (sampleOpen c s b))
+
+module _ (c : Config) (s : State) (bits : List ℕ) (t : LapReply) (is : lapOf c s bits ≡ t) where
+  -- a run to its end closes nothing
+  pub ends-open : t .closes ≡ false → closedIn c s bits ≡ []
+  ends-open e = closed-by-laps c s bits ∙ rw (is, e)
+
+  -- a run to a closing closes that period, and then those of the rest
+  pub closes-first : t .closes ≡ true → closedIn c s bits ≡ closedHere c (t .state) .closed ∷ closedIn c (closedHere c (t .state)) (drop (t .taken) bits)
+  closes-first e = closed-by-laps c s bits ∙ rw (is, e)
+
 -- samples that went before, counted in twice
 pub later-later : (k n : ℕ) (r : RunReply State) → later k (later n r) ≡ later (k + n) r
 later-later k n r = let e : k + (n + r .taken) ≡ k + n + r .taken = omega arith in (λ i. record { taken = e i; number = r .number; after = r .after })
@@ -162,3 +198,11 @@ one-closes c s bits t is e =
     let one : t .taken ≡ 1 = omega arith in
     let number : t .number ≡ 0 = rw is at (closes-unrefused c s (bits ∷ []) (rw is e)) in
     run-closes c s (bits ∷ []) t is e ∙ rw (one, number)
+
+-- it closes one period
+pub one-closed : (c : Config) (s : State) (bits : ℕ) (t : LapReply) → lapOf c s (bits ∷ []) ≡ t → t .closes ≡ true
+    → closedIn c s (bits ∷ []) ≡ closedHere c (t .state) .closed ∷ []
+unfolding closedIn
+one-closed c s bits t is e =
+    let least : 0 < t .taken = rw is at (closes-some c s (bits ∷ []) (rw is e)) in
+    closes-first c s (bits ∷ []) t is e ∙ ap (λ (l : List ℕ). closedHere c (t .state) .closed ∷ closedIn c (closedHere c (t .state)) l) (drop-of-length-le (bits ∷ []) least)

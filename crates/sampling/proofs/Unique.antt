@@ -2,21 +2,15 @@
 use mathlib.Core.Path.{_≡_, refl, sym, ap, _∙_}
 use Prim.Native.Nat.{ℕ}
 use lib.Dec.{eqb}
-use Rattle.laws.specs.Answers.{RunReply}
 use Rattle.laws.specs.If.{if_then_else_}
 use Rattle.laws.specs.Unique.{OneResult}
 use Rattle.laws.proofs.Unique.{told-apart}
-use Rattle.sampling.specs.Samples.{sampleNumber, takenSaid}
+use Rattle.sampling.specs.Samples.{sampleNumber}
 use Rattle.sampling.specs.Laps.{LapReply}
-use Rattle.sampling.specs.declared.State.{State}
-use Rattle.sampling.specs.declared.samples.Taking.{Taking}
 use Rattle.sampling.specs.declared.SampleAnswer.{SampleAnswer}
-use Rattle.sampling.specs.declared.SampleAnswer.the-variants.{Taken, ClockEnd, Full}
+use Rattle.sampling.specs.declared.SampleAnswer.the-variants.{Taken, ProfileBuffer, ClockEnd, Full}
 use Rattle.sampling.proofs.samples.take.Reads as take-reads
-use Rattle.sampling.proofs.samples.run.Reads as run-reads
-use Rattle.sampling.proofs.samples.one.Reads as one-reads
-use Rattle.sampling.proofs.clock.cleared.Reads as cleared-reads
-use Rattle.sampling.proofs.clock.close_period.Reads as close-period-reads
+use Rattle.sampling.proofs.clock.close_with.Reads as close-with-reads
 use Rattle.sampling.proofs.clock.close.Reads as close-reads
 
 -- document 01's number tells all answers to a sample apart
@@ -24,18 +18,16 @@ pub sample-apart : (x y : SampleAnswer) → sampleNumber x ≡ sampleNumber y �
 sample-apart = told-apart sampleNumber back told
   where
     back : ℕ → SampleAnswer
-    back n = if eqb n 5 then ClockEnd else if eqb n 6 then Full else Taken
+    back n = if eqb n 14 then ProfileBuffer else if eqb n 5 then ClockEnd else if eqb n 6 then Full else Taken
 
     told : (x : SampleAnswer) → back (sampleNumber x) ≡ x
     told Taken = refl
+    told ProfileBuffer = refl
     told ClockEnd = refl
     told Full = refl
 
-pub cleared : OneResult cleared-reads.Post
-cleared κs a x y e f p q = p ∙ sym q
-
-pub close-period : OneResult close-period-reads.Post
-close-period κs a x y e f p q = p ∙ sym q
+pub close-with : OneResult close-with-reads.Post
+close-with κs a x y e f p q = p ∙ sym q
 
 pub close : OneResult close-reads.Post
 close κs a x y e f p q = p ∙ sym q
@@ -48,17 +40,3 @@ take-once κs a x y e f p q =
     let answer = sample-apart (x .answer) (y .answer) (ap (λ (r : LapReply). r .number) s) in
     let closes = ap (λ (r : LapReply). r .closes) s in
     (λ i. record { state = state i; taken = taken i; answer = answer i; closes = closes i })
-
--- two answers to a run that say the same are the same
-same-taking : (x y : Taking) → takenSaid x ≡ takenSaid y → x ≡ y
-same-taking x y s =
-    let state = ap (λ (r : RunReply State). r .after) s in
-    let taken = ap (λ (r : RunReply State). r .taken) s in
-    let answer = sample-apart (x .answer) (y .answer) (ap (λ (r : RunReply State). r .number) s) in
-    (λ i. record { state = state i; taken = taken i; answer = answer i })
-
-pub run-once : OneResult run-reads.Post
-run-once κs a x y e f p q = same-taking x y (p ∙ sym q)
-
-pub one-once : OneResult one-reads.Post
-one-once κs a x y e f p q = same-taking x y (p ∙ sym q)

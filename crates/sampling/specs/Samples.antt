@@ -15,8 +15,7 @@ use Rattle.counting.specs.Bills.{sumsOf, bookedOf}
 use Rattle.sampling.specs.Periods.{tickOf}
 use Rattle.sampling.specs.declared.State.{State}
 use Rattle.sampling.specs.declared.SampleAnswer.{SampleAnswer}
-use Rattle.sampling.specs.declared.SampleAnswer.the-variants.{Taken, ClockEnd, Full}
-use Rattle.sampling.specs.declared.samples.Taking.{Taking}
+use Rattle.sampling.specs.declared.SampleAnswer.the-variants.{Taken, ProfileBuffer, ClockEnd, Full}
 use Rattle.counting.specs.declared.Line.{Line}
 use Rattle.counting.specs.declared.Bill.{Bill}
 
@@ -97,9 +96,6 @@ samplesOf c s (bits ∷ more) = onward s (sampleOf c s bits) (λ next. samplesOf
 -- document 01's number of an answer; 0 where the sample was taken
 abbrev pub sampleNumber : SampleAnswer → ℕ
 sampleNumber Taken = 0
+sampleNumber ProfileBuffer = 14
 sampleNumber ClockEnd = 5
 sampleNumber Full = 6
-
--- what the code's answer to a run says
-abbrev pub takenSaid : Taking → RunReply State
-takenSaid t = record { taken = t .taken; number = sampleNumber (t .answer); after = t .state }

@@ -5,7 +5,7 @@ use crate::State;
 use counting::levels::level9;
 use settings::Config;
 ghost use mathlib.Core.Path.{_≡_};
-ghost use Rattle.sampling.specs.Periods.{multiple, clearedLines, stateOf, closedAs};
+ghost use Rattle.sampling.specs.Periods.{multiple, clearedLines, stateOf, closedAs, closedWith};
 ghost use Rattle.sampling.specs.Laps.{closedHere};
 
 // Whether a time is a multiple of the period's seconds. No image has a period of 0 minutes; one that had would have no multiple.
@@ -20,7 +20,7 @@ pub(crate) fn is_multiple(period: u8, time: u32) -> bool
 }
 
 // The lines at the start of a period: only level 0 begins anew.
-pub fn cleared(lines: [Line; 16]) -> [Line; 16]
+fn cleared(lines: [Line; 16]) -> [Line; 16]
     ensures { λ r. ⌜ r ≡ clearedLines lines ⌝ }
 {
     let mut next = lines;
@@ -37,7 +37,7 @@ pub fn cleared(lines: [Line; 16]) -> [Line; 16]
 }
 
 // The period that closes: its state, its closing time, its chosen values.
-pub fn close_period(config: Config, state: u8, stamp: u32, lines: [Line; 16]) -> Period
+fn close_period(config: Config, state: u8, stamp: u32, lines: [Line; 16]) -> Period
     ensures { λ r. ⌜ r ≡ closedAs config state stamp lines ⌝ }
 {
     let values = level9(config, lines);
@@ -58,21 +58,24 @@ fn step_state(period: u8, first: u32) -> u8
     1
 }
 
+// The period closes, with its state and its closing time, and the next begins with a second.
+pub fn close_with(config: Config, state: State, kind: u8, stamp: u32, time: u32) -> State
+    ensures { λ r. ⌜ r ≡ closedWith state time (closedAs config kind stamp (state .lines)) ⌝ }
+{
+    let lines = state.lines;
+    let closed = close_period(config, kind, stamp, lines);
+    let fresh = cleared(lines);
+    let mut next = state;
+    next.first = time;
+    next.lines = fresh;
+    next.closed = closed;
+    next
+}
+
 // The closing that the step brings: the period closes at the clock's new second, and the next begins with it.
 pub fn close(config: Config, state: State) -> State
     ensures { λ r. ⌜ r ≡ closedHere config state ⌝ }
 {
-    let lines = state.lines;
-    let closed = close_period(
-        config,
-        step_state(config.period, state.first),
-        state.clock,
-        lines,
-    );
-    let fresh = cleared(lines);
-    let mut next = state;
-    next.first = state.clock;
-    next.lines = fresh;
-    next.closed = closed;
-    next
+    let kind = step_state(config.period, state.first);
+    close_with(config, state, kind, state.clock, state.clock)
 }

@@ -33,8 +33,10 @@ pub struct State {
     pub closed: Period,
 }
 
+// The answer to a sample. PROFILE BUFFER is given by the recorder, to which the profile's buffer is lent.
 pub enum SampleAnswer {
     Taken,
+    ProfileBuffer,
     ClockEnd,
     Full,
 }

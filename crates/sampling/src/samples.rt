@@ -7,7 +7,6 @@ use crate::booking::Tariffs;
 use crate::booking::aged;
 use crate::booking::book;
 use crate::booking::tariffs_at;
-use crate::clock::close;
 use crate::clock::is_multiple;
 use counting::bills::amounts_of;
 use counting::bills::put_amounts;
@@ -18,20 +17,12 @@ use counting::units::settle;
 use settings::Config;
 ghost use mathlib.Core.Path.{_≡_};
 ghost use Prim.Native.Nat.{_+_, _-_, _≤_};
-ghost use mathlib.Core.List.{[], _∷_};
 ghost use lib.ListN.{length};
-ghost use Rattle.sampling.specs.Samples.{putIn, samplesOf, takenSaid};
+ghost use Rattle.sampling.specs.Samples.{putIn};
 ghost use Rattle.sampling.specs.Laps.{lapOf, lapSaid};
 ghost use Rattle.sampling.specs.Kept.{Idle, restoredLines};
 
-// What a run came to: the state, how many samples were taken, and the refusal that ended it, if there was one.
-pub struct Taking {
-    pub state: State,
-    pub taken: usize,
-    pub answer: SampleAnswer,
-}
-
-// A run to the first closing: also whether it ended with one, which is still to be done.
+// A run to the first closing: the state, how many samples were taken, the refusal that ended it, if there was one, and whether it ended with a closing, which is still to be done.
 pub struct Lap {
     pub state: State,
     pub taken: usize,
@@ -216,49 +207,5 @@ pub fn take(config: Config, start: State, bits: &[u16]) -> Lap
         taken: k,
         answer,
         closes,
-    }
-}
-
-// The samples one after another, up to the first refusal: lap after lap, with the closings between them.
-pub fn run(config: Config, start: State, bits: &[u16]) -> Taking
-    ensures { λ r. ⌜ takenSaid r ≡ samplesOf config start (now (bits .entry)) ⌝ }
-{
-    let mut now = start;
-    let mut k: usize = 0;
-    loop {
-        let lap = take(config, now, &bits[k..]);
-        let state = lap.state;
-        let answer = lap.answer;
-        k += lap.taken;
-        if !lap.closes {
-            return Taking {
-                state,
-                taken: k,
-                answer,
-            };
-        }
-        now = close(config, state);
-    }
-}
-
-// One sample, with the closing that it may bring.
-pub fn one(config: Config, start: State, bits: u16) -> Taking
-    ensures { λ r. ⌜ takenSaid r ≡ samplesOf config start (bits ∷ []) ⌝ }
-{
-    let alone = [bits];
-    let lap = take(config, start, &alone);
-    let state = lap.state;
-    let answer = lap.answer;
-    if lap.closes {
-        return Taking {
-            state: close(config, state),
-            taken: lap.taken,
-            answer,
-        };
-    }
-    Taking {
-        state,
-        taken: lap.taken,
-        answer,
     }
 }

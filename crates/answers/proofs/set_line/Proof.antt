@@ -3,11 +3,9 @@ use borrow.Author.Needs.{needs}
 use Rattle.answers.proofs.set_line.Statement.{statement}
 use Rattle.answers.proofs.set_line.Tie as tie
 
-returns : tie.Need-returns
-returns c = rw (c .ok .ensures, c .before .enum-told .given .1)
-
-returns-2 : tie.Need-returns-2
-returns-2 c = rw (c .refused .ensures, c .before .enum-told2 .given .1)
-
 pub set-line-spec : {M : Type 1} → statement M
-set-line-spec = tie.close (tie.spec (λ c. search needs) (λ c κs. search needs) (λ c. search needs) (λ c κs. search needs) returns returns-2)
+set-line-spec =
+    tie.close
+    (tie.spec (λ c. search needs) (λ c κs. search needs) (λ c. search needs) (λ c κs. search needs) (λ c. search needs) (λ c κs. search needs)
+    (λ c. rw (c .ok .ensures, c .before .enum-told .given .1)) (λ c. rw (c .refused .ensures, c .before .enum-told2 .given .1))
+    (λ c. rw (c .refused2 .ensures, c .before .enum-told3 .given .1)))

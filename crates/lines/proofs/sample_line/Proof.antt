@@ -1,4 +1,4 @@
--- `lines::sample_line` meets its contract: by what the calls ensure.
+-- `lines::sample_line` meets its contract: by its tests, and what the calls ensure.
 use Rattle.lines.specs.Lines.{askedOf}
 use borrow.Author.Needs.{needs}
 use Rattle.lines.proofs.sample_line.Statement.{statement}
@@ -6,7 +6,23 @@ use Rattle.lines.proofs.sample_line.Tie as tie
 
 returns : tie.Need-returns
 unfolding askedOf
-returns c = rw (c .sample-of .ensures, c .before .number-or .ensures, c .before .before .number-at .ensures .0)
+returns c = rw (c .bad .ensures, ← c .before .before .before .number-at .ensures .0, c .before .if1 .taken)
+
+returns-2 : tie.Need-returns-2
+unfolding askedOf
+returns-2 c =
+    let n = c .before .before .before in
+    let i = n .before in
+    rw (c .bad2 .ensures, ← i .before .before .number-at .ensures .0, i .if1 .left, ← n .number-or .ensures, c .before .if2 .taken)
+
+returns-3 : tie.Need-returns-3
+unfolding askedOf
+returns-3 c =
+    let n = c .before .before .before in
+    let i = n .before in
+    rw (← i .before .before .number-at .ensures .0, i .if1 .left, ← n .number-or .ensures, c .before .if2 .left)
 
 pub sample-line-spec : {M : Type 1} → statement M
-sample-line-spec = tie.close (tie.spec (λ c κs. search needs) (λ c κs. search needs) (λ c κs. search needs) returns)
+sample-line-spec =
+    tie.close
+    (tie.spec (λ c κs. search needs) (λ c κs. search needs) returns (λ c κs. search needs) (λ c κs. search needs) returns-2 (λ c. search needs) returns-3)

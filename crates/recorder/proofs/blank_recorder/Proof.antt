@@ -6,7 +6,7 @@ use Rattle.recorder.proofs.blank_recorder.Tie as tie
 
 returns : tie.Need-returns
 unfolding blankRecorder
-returns c = rw (c .fresh-state .ensures, c .before .blank-config .ensures)
+returns c = rw (c .fresh-profile .ensures, c .before .fresh-state .ensures, c .before .before .blank-config .ensures)
 
 pub blank-recorder-spec : {M : Type 1} → statement M
-blank-recorder-spec = tie.close (tie.spec (λ c κs. search needs) (λ c κs. search needs) returns)
+blank-recorder-spec = tie.close (tie.spec (λ c κs. search needs) (λ c κs. search needs) (λ c κs. search needs) returns)

@@ -7,11 +7,12 @@ use Rattle.recorder.proofs.start_at.Statement.{statement}
 use Rattle.recorder.proofs.start_at.Tie as tie
 
 returns : tie.Need-returns
-returns c = rw (sym (c .before .before .before .moment-of .ensures) ∙ ap datedSaid (c .before .enum-told .given .1), c .fresh-state .ensures)
+returns c = rw (sym (c .before .before .before .before .moment-of .ensures) ∙ ap datedSaid (c .before .before .enum-told .given .1), c .fresh-profile .ensures, c .before .fresh-state .ensures)
 
 returns-2 : tie.Need-returns-2
 returns-2 c = rw (sym (c .before .before .before .moment-of .ensures) ∙ ap datedSaid (c .before .enum-told2 .given .1)) (ap startSaid (c .refuse-start .ensures))
 
 pub start-at-spec : {M : Type 1} → statement M
 start-at-spec =
-    tie.close (tie.spec (λ c κs. search needs) (λ c. search needs) (λ c κs. search needs) (λ c. search needs) (λ c κs. search needs) returns returns-2)
+    tie.close
+    (tie.spec (λ c κs. search needs) (λ c. search needs) (λ c κs. search needs) (λ c κs. search needs) (λ c. search needs) (λ c κs. search needs) returns returns-2)

@@ -1,23 +1,13 @@
 -- `registers::give` meets its contract. The loop's invariant: the first i bytes are the register's, the others the buffer's own.
-use mathlib.Core.Path.{_≡_, refl, sym, ap, _∙_}
+use mathlib.Core.Path.{_≡_, refl, ap, _∙_}
 use mathlib.Core.List.{List, _++_}
-use Prim.Native.Nat.{ℕ, suc, _+_, _-_, _≤_, _<_}
-use native.Mathlib.Nat.{le-of-lt}
-use native.Mathlib.Numerals.{add-one}
+use Prim.Native.Nat.{ℕ, _-_, _≤_}
 use native.Mathlib.Omega.{arith}
 use borrow.Author.Needs.{needs}
 use lib.ListN.{length, take, drop, set, getD, length-set}
-use lib.Seq.{length-take-le, take-suc, drop-cons, append-snoc, set-at}
+use Rattle.laws.proofs.Stores.{one-copied}
 use Rattle.registers.proofs.give.Statement.{statement}
 use Rattle.registers.proofs.give.Tie as tie
-
--- one byte more stands in front of what is left of the buffer
-turn : (bytes buf : List ℕ) (i : ℕ) → i < length bytes → i < length buf
-    → set (take i bytes ++ drop i buf) i (getD bytes i 0) ≡ take (i + 1) bytes ++ drop (i + 1) buf
-turn bytes buf i h k =
-    rw (add-one, take-suc bytes i 0, drop-cons buf i 0)
-    (set-at (take i bytes) (getD buf i 0) (drop (suc i) buf) (getD bytes i 0) i (length-take-le i bytes (le-of-lt h))
-    ∙ sym (append-snoc (take i bytes) (getD bytes i 0) (drop (suc i) buf)))
 
 abbrev Inv-loop : tie.InvT-loop
 Inv-loop buf₀ n bytes i₀ buf i = (i ≤ n) × (buf ≡ take i bytes ++ drop i buf₀) × (length buf ≡ length buf₀)
@@ -33,7 +23,7 @@ loop-again c =
     let l = c .before .loop in
     let a = c .before .before .args in (
       omega arith,
-      ap (λ (b : List ℕ). set b (l .i) (getD (a .t2) (l .i) 0)) (l .inv .1) ∙ turn (a .t2) (a .buf .now) (l .i) (omega arith) (omega arith),
+      ap (λ (b : List ℕ). set b (l .i) (getD (a .t2) (l .i) 0)) (l .inv .1) ∙ one-copied (a .t2) (a .buf .now) (l .i) (omega arith) (omega arith),
       simp length-set (l .inv .2),
     )
 

@@ -1,37 +1,41 @@
--- `answers::dates::weekday` meets its contract: by the arms.
-use Prim.Native.Nat.{ℕ, suc, _≤_, zero-le}
+-- `answers::dates::weekday` meets its contract: by the place of each name.
+use Prim.Native.Nat.{ℕ, zero, suc, _<_}
 use Rattle.answers.proofs.Laws.{sunday}
 use Rattle.answers.specs.Answers.{weekdayName}
 use Rattle.laws.specs.Letters.{letters}
-use Rattle.answers.specs.Texts.{withBytes}
+use Rattle.answers.specs.Texts.{rowAt, asText}
 use borrow.Author.Needs.{needs}
-use mathlib.Core.Path.{_≡_}
+use mathlib.Core.List.{List, _∷_, _++_}
+use mathlib.Core.Path.{_≡_, refl, ap}
 use native.Mathlib.Omega.{arith}
 use Rattle.answers.proofs.dates.weekday.Statement.{statement}
 use Rattle.answers.proofs.dates.weekday.Tie as tie
 
--- a number from n on that is not n
-past : (n d : ℕ) → n ≤ d → (d ≡ n → ⊥) → suc n ≤ d
-past n d h e = omega arith
+-- the names as the code has them
+abbrev names : List ℕ
+names =
+    letters "Monday " ++ (10 ∷ letters "Tuesday ") ++ (10 ∷ letters "Wednesday ") ++ (10 ∷ letters "Thursday ") ++ (10 ∷ letters "Friday ")
+    ++ (10 ∷ letters "Saturday ") ++ (10 ∷ letters "Sunday ")
 
--- no weekday before Sunday
-six : (d : ℕ)
-    → (((((Unit {0} × (d ≡ 0 → ⊥)) × (d ≡ 1 → ⊥)) × (d ≡ 2 → ⊥)) × (d ≡ 3 → ⊥)) × (d ≡ 4 → ⊥)) × (d ≡ 5 → ⊥)
-    → 6 ≤ d
-six d r =
-    past 5 d (past 4 d (past 3 d (past 2 d (past 1 d (past 0 d zero-le (r .0 .0 .0 .0 .0 .1)) (r .0 .0 .0 .0 .1)) (r .0 .0 .0 .1)) (r .0 .0 .1)) (r .0 .1)) (r .1)
+-- the name at each place
+named : (d : ℕ) → d < 6 → rowAt d names ≡ weekdayName d ++ letters " "
+unfolding letters rowAt weekdayName
+named zero h = refl
+named (suc zero) h = refl
+named (suc (suc zero)) h = refl
+named (suc (suc (suc zero))) h = refl
+named (suc (suc (suc (suc zero)))) h = refl
+named (suc (suc (suc (suc (suc zero))))) h = refl
+named (suc (suc (suc (suc (suc (suc d)))))) h = absurd (omega arith)
+
+returns : tie.Need-returns
+unfolding letters
+returns c = rw (c .with-row .ensures, c .before .blank .ensures) (ap asText (named _ (c .before .before .if1 .taken)))
+
+returns-2 : tie.Need-returns-2
+unfolding letters rowAt
+returns-2 c = rw (c .with-row2 .ensures, c .before .blank2 .ensures, sunday _ (c .before .before .if1 .left))
 
 pub weekday-spec : {M : Type 1} → statement M
-unfolding letters withBytes weekdayName
 weekday-spec =
-    tie.close
-    (tie.spec (λ c κs. search needs) (λ c. search needs) (λ c κs. search needs) (λ c κs. search needs) (λ c. search needs) (λ c κs. search needs)
-    (λ c κs. search needs) (λ c. search needs) (λ c κs. search needs) (λ c κs. search needs) (λ c. search needs) (λ c κs. search needs) (λ c κs. search needs)
-    (λ c. search needs) (λ c κs. search needs) (λ c κs. search needs) (λ c. search needs) (λ c κs. search needs) (λ c κs. search needs) (λ c. search needs)
-    (λ c κs. search needs) (λ c. rw (c .with-bytes .ensures, c .before .before .blank .ensures, c .before .before .before .match .keys1))
-    (λ c. rw (c .with-bytes2 .ensures, c .before .before .blank2 .ensures, c .before .before .before .match .keys2))
-    (λ c. rw (c .with-bytes3 .ensures, c .before .before .blank3 .ensures, c .before .before .before .match .keys3))
-    (λ c. rw (c .with-bytes4 .ensures, c .before .before .blank4 .ensures, c .before .before .before .match .keys4))
-    (λ c. rw (c .with-bytes5 .ensures, c .before .before .blank5 .ensures, c .before .before .before .match .keys5))
-    (λ c. rw (c .with-bytes6 .ensures, c .before .before .blank6 .ensures, c .before .before .before .match .keys6))
-    (λ c. rw (c .with-bytes7 .ensures, c .before .before .blank7 .ensures, sunday _ (six _ (c .before .before .before .match .rest)))))
+    tie.close (tie.spec (λ c. search needs) (λ c κs. search needs) (λ c κs. search needs) returns (λ c κs. search needs) (λ c κs. search needs) returns-2)

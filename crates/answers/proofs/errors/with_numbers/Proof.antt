@@ -1,21 +1,30 @@
 -- `answers::errors::with_numbers` meets its contract: the letters of each variant.
 use Rattle.answers.specs.Errors.{numbersText}
+use Rattle.answers.proofs.Laws.{split}
+use Rattle.answers.specs.Texts.{withBytes, rowAt}
 use Rattle.laws.specs.Letters.{letters}
 use borrow.Author.Needs.{needs}
 use Rattle.answers.proofs.errors.with_numbers.Statement.{statement}
 use Rattle.answers.proofs.errors.with_numbers.Tie as tie
 
+returns-13 : tie.Need-returns-13
+unfolding letters rowAt numbersText withBytes
+returns-13 c =
+    let n = c .before in
+    rw (c .with-row13 .ensures, n .with-number .ensures, n .before .with-byte .ensures, n .before .before .before .parameter .given .1) (simp split)
+
 pub with-numbers-spec : {M : Type 1} → statement M
-unfolding letters numbersText
+unfolding letters rowAt numbersText
 with-numbers-spec =
     tie.close
-    (tie.spec (λ c. search needs) (λ c. search needs) (λ c κs. search needs) (λ c. search needs) (λ c. search needs) (λ c κs. search needs) (λ c. search needs)
-    (λ c. search needs) (λ c κs. search needs) (λ c. search needs) (λ c. search needs) (λ c κs. search needs) (λ c. search needs) (λ c. search needs)
-    (λ c κs. search needs) (λ c. search needs) (λ c. search needs) (λ c κs. search needs) (λ c. search needs) (λ c. search needs) (λ c κs. search needs)
-    (λ c. search needs) (λ c. search needs) (λ c κs. search needs) (λ c. search needs) (λ c. search needs) (λ c κs. search needs) (λ c. search needs)
-    (λ c. search needs) (λ c κs. search needs) (λ c. rw (c .with-bytes .ensures, c .before .before .enum-told .given .1))
-    (λ c. rw (c .with-bytes2 .ensures, c .before .before .enum-told2 .given .1)) (λ c. rw (c .with-bytes3 .ensures, c .before .before .enum-told3 .given .1))
-    (λ c. rw (c .with-bytes4 .ensures, c .before .before .enum-told4 .given .1)) (λ c. rw (c .with-bytes5 .ensures, c .before .before .enum-told5 .given .1))
-    (λ c. rw (c .with-bytes6 .ensures, c .before .before .enum-told6 .given .1)) (λ c. rw (c .with-bytes7 .ensures, c .before .before .enum-told7 .given .1))
-    (λ c. rw (c .with-bytes8 .ensures, c .before .before .enum-told8 .given .1)) (λ c. rw (c .with-bytes9 .ensures, c .before .before .enum-told9 .given .1))
-    (λ c. rw (c .with-bytes10 .ensures, c .before .before .enum-told10 .given .1)))
+    (tie.spec (λ c. search needs) (λ c. search needs) (λ c κs. search needs) (λ c. search needs) (λ c κs. search needs) (λ c. search needs)
+    (λ c κs. search needs) (λ c. search needs) (λ c κs. search needs) (λ c. search needs) (λ c κs. search needs) (λ c. search needs) (λ c κs. search needs)
+    (λ c. search needs) (λ c κs. search needs) (λ c. search needs) (λ c κs. search needs) (λ c. search needs) (λ c κs. search needs) (λ c. search needs)
+    (λ c κs. search needs) (λ c. search needs) (λ c κs. search needs) (λ c. search needs) (λ c κs. search needs) (λ c. search needs) (λ c κs. search needs)
+    (λ c. search needs) (λ c κs. search needs) (λ c κs. search needs) (λ c. rw (c .before .enum-told .given .1) (c .with-row .ensures))
+    (λ c. rw (c .before .enum-told2 .given .1) (c .with-row2 .ensures)) (λ c. rw (c .before .enum-told3 .given .1) (c .with-row3 .ensures))
+    (λ c. rw (c .before .enum-told4 .given .1) (c .with-row4 .ensures)) (λ c. rw (c .before .enum-told5 .given .1) (c .with-row5 .ensures))
+    (λ c. rw (c .before .enum-told6 .given .1) (c .with-row6 .ensures)) (λ c. rw (c .before .enum-told7 .given .1) (c .with-row7 .ensures))
+    (λ c. rw (c .before .enum-told8 .given .1) (c .with-row8 .ensures)) (λ c. rw (c .before .enum-told9 .given .1) (c .with-row9 .ensures))
+    (λ c. rw (c .before .enum-told10 .given .1) (c .with-row10 .ensures)) (λ c. rw (c .before .enum-told11 .given .1) (c .with-row11 .ensures))
+    (λ c. rw (c .before .enum-told12 .given .1) (c .with-row12 .ensures)) returns-13)

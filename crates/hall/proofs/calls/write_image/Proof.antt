@@ -7,10 +7,10 @@ use Rattle.hall.proofs.calls.write_image.Statement.{statement}
 use Rattle.hall.proofs.calls.write_image.Tie as tie
 
 abbrev Inv-loop : tie.InvT-loop
-Inv-loop out₀ recorder image answer at₀ from₀ out at from = (from ≤ 1225) × (length image ≡ 1126) × (length out₀ ≡ length out)
+Inv-loop desk out₀ image answer at₀ from₀ out at from = (from ≤ 1225) × (length image ≡ 1126) × (length out₀ ≡ length out)
 
 abbrev μ-loop : tie.MeasureT-loop
-μ-loop out₀ recorder image answer at₀ from₀ out at from = 1226 - from
+μ-loop desk out₀ image answer at₀ from₀ out at from = 1226 - from
 
 pub write-image-spec : {M : Type 1} → statement M
 write-image-spec =

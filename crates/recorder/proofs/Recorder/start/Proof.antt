@@ -1,29 +1,25 @@
--- `recorder::Recorder::start` meets its contract: each arm knows the image's answer.
-use mathlib.Core.Path.{sym, ap, _∙_}
+-- `recorder::Recorder::start` meets its contract: the buffer's length, the slots, then the image.
+use mathlib.Core.Path.{ap, _∙_}
 use borrow.Author.Needs.{needs}
-use Rattle.image.specs.Answers.{imageSaid}
 use Rattle.recorder.specs.Calls.{startSaid}
-use Rattle.recorder.proofs.Starts.{started-from, refused-from}
+use Rattle.recorder.proofs.Starts.{start-14, start-8, start-on}
 use Rattle.recorder.proofs.Recorder.start.Statement.{statement}
 use Rattle.recorder.proofs.Recorder.start.Tie as tie
 
 returns : tie.Need-returns
-returns c = c .start-at .ensures ∙ started-from _ _ _ (c .before .before .before .before .read-image .ensures) (c .before .before .enum-told .given .1)
+returns c = ap startSaid (c .refuse-start .ensures) ∙ start-14 _ _ _ _ _ (c .before .before .legal-length .ensures) (c .before .if1 .taken)
 
 returns-2 : tie.Need-returns-2
-returns-2 c = ap startSaid (c .refuse-start .ensures) ∙ refused-from _ _ 1 0 (sym (c .before .before .before .read-image .ensures .answer) ∙ ap imageSaid (c .before .enum-told2 .given .1))
+returns-2 c =
+    ap startSaid (c .refuse-start2 .ensures)
+    ∙ start-8 _ _ _ _ _ (c .before .before .before .before .before .legal-length .ensures) _ (c .before .before .before .before .if1 .left) (c .before .before .slots-fit .ensures) (c .before .if2 .taken)
 
 returns-3 : tie.Need-returns-3
-returns-3 c = ap startSaid (c .refuse-start2 .ensures) ∙ refused-from _ _ 2 0 (sym (c .before .before .before .read-image .ensures .answer) ∙ ap imageSaid (c .before .enum-told3 .given .1))
-
-returns-4 : tie.Need-returns-4
-returns-4 c = ap startSaid (c .refuse-start3 .ensures) ∙ refused-from _ _ 3 3 (sym (c .before .before .before .read-image .ensures .answer) ∙ ap imageSaid (c .before .enum-told4 .given .1))
-
-returns-5 : tie.Need-returns-5
-returns-5 c = ap startSaid (c .refuse-start4 .ensures) ∙ refused-from _ _ 4 _ (sym (c .before .before .before .before .read-image .ensures .answer) ∙ ap imageSaid (c .before .before .answer .given .1))
+returns-3 c =
+    c .start-from .ensures
+    ∙ start-on _ _ _ _ _ (c .before .before .before .before .before .legal-length .ensures) _ (c .before .before .before .before .if1 .left) (c .before .before .slots-fit .ensures) (c .before .if2 .left)
 
 pub start-spec : {M : Type 1} → statement M
 start-spec =
     tie.close
-    (tie.spec (λ c κs. search needs) (λ c. search needs) (λ c κs. search needs) (λ c. search needs) (λ c κs. search needs) (λ c. search needs)
-    (λ c κs. search needs) (λ c. search needs) (λ c κs. search needs) (λ c. search needs) (λ c κs. search needs) returns returns-2 returns-3 returns-4 returns-5)
+    (tie.spec (λ c κs. search needs) (λ c κs. search needs) returns (λ c κs. search needs) (λ c κs. search needs) returns-2 (λ c κs. search needs) returns-3)

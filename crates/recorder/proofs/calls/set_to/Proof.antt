@@ -6,7 +6,7 @@ use Rattle.recorder.proofs.calls.set_to.Tie as tie
 
 returns : tie.Need-returns
 unfolding setTo
-returns c = rw (c .cleared .ensures, c .before .close-period .ensures)
+returns c = rw (c .close-with .ensures)
 
 pub set-to-spec : {M : Type 1} → statement M
-set-to-spec = tie.close (tie.spec (λ c κs. search needs) (λ c κs. search needs) returns)
+set-to-spec = tie.close (tie.spec (λ c κs. search needs) returns)

@@ -1,7 +1,7 @@
 -- Calls that are lent a buffer, from what the code found of its length.
 use mathlib.Core.Path.{_≡_, sym, ap, ap₂, _∙_}
 use mathlib.Core.Bool.{Bool, true, false, not}
-use mathlib.Core.List.{List, [], _∷_}
+use mathlib.Core.List.{List}
 use Prim.Native.Nat.{ℕ}
 use borrow.Author.Tests.{not-true, not-false}
 use lib.ListN.{length}
@@ -16,7 +16,6 @@ use Rattle.sampling.specs.declared.State.{State}
 use Rattle.recorder.specs.Clock.{setOf}
 use Rattle.recorder.specs.Profile.{recordsOf, closedBySet, withBuffer, lentTo}
 use Rattle.recorder.specs.Calls.{setNumber, setSaid, takenSaid, beside, runBeside, profileBuffer, sampleLent, samplesLent, setLent}
-use Rattle.recorder.proofs.Single.{one-sample, one-period}
 use Rattle.recorder.specs.declared.calls.Setting.{Setting}
 use Rattle.recorder.specs.declared.samples.Taking.{Taking}
 use Rattle.recorder.specs.declared.Recorder.{Recorder}
@@ -53,27 +52,25 @@ with-moved r s p = record { config = r .config; setup = r .setup; state = s; pro
 
 module _ (r : Recorder) (buffer : List ℕ) (right : Bool) (is : right ≡ asAtStart (r .profile) (length buffer)) (whole : not right ≡ false) where
   -- a sample
-  pub sample-lent : (bits : ℕ) (t : Taking) (buffer′ : List ℕ) → takenSaid t ≡ samplesOf (r .config) (r .state) (bits ∷ [])
-      → kept (t .profile) buffer′ ≡ withRecords (kept (r .profile) buffer) (recordsOf (r .setup) (closedIn (r .config) (r .state) (bits ∷ [])))
+  pub sample-lent : (bits : ℕ) (t : Taking) (buffer′ : List ℕ) → takenSaid t ≡ replyTo (r .state) (sampleOf (r .config) (r .state) bits)
+      → kept (t .profile) buffer′ ≡ withRecords (kept (r .profile) buffer) (recordsOf (r .setup) (closedBy (r .config) (sampleOf (r .config) (r .state) bits)))
       → withBuffer (record { number = sampleNumber (t .answer); after = with-moved r (t .state) (t .profile) }) buffer′ ≡ sampleLent r bits buffer
   unfolding sampleLent
-  sample-lent bits t buffer′ taken put =
-      let answer = sampleOf (r .config) (r .state) bits in
-      let periods = closedBy (r .config) answer in
-      taken-lent r buffer right is (profileBuffer r) (λ q. record { number = sampleNumber (t .answer); after = with-moved r (t .state) q }) periods (t .profile) buffer′ whole
-      (rw (one-period (r .config) (r .state) bits) at put)
-      ∙ ap (λ (x : Reply State). lentTo r buffer (profileBuffer r) (beside r x periods) periods) (one-sample (r .config) (r .state) bits (takenSaid t) taken)
+  sample-lent bits t buffer′ said put =
+      let periods = closedBy (r .config) (sampleOf (r .config) (r .state) bits) in
+      taken-lent r buffer right is (profileBuffer r) (λ q. record { number = sampleNumber (t .answer); after = with-moved r (t .state) q }) periods (t .profile) buffer′ whole put
+      ∙ ap (λ (x : Reply State). lentTo r buffer (profileBuffer r) (beside r x periods) periods) said
 
   -- a run of samples
-  pub run-lent : (bits : List ℕ) (t : Taking) (buffer′ : List ℕ) → takenSaid t ≡ samplesOf (r .config) (r .state) bits
-      → kept (t .profile) buffer′ ≡ withRecords (kept (r .profile) buffer) (recordsOf (r .setup) (closedIn (r .config) (r .state) bits))
-      → withBuffer (record { taken = t .taken; number = sampleNumber (t .answer); after = with-moved r (t .state) (t .profile) }) buffer′ ≡ samplesLent r bits buffer
+  pub run-lent : (bits : List ℕ) (t : RunReply State) (p : Profile) (buffer′ : List ℕ) → t ≡ samplesOf (r .config) (r .state) bits
+      → kept p buffer′ ≡ withRecords (kept (r .profile) buffer) (recordsOf (r .setup) (closedIn (r .config) (r .state) bits))
+      → withBuffer (record { taken = t .taken; number = t .number; after = with-moved r (t .after) p }) buffer′ ≡ samplesLent r bits buffer
   unfolding samplesLent
-  run-lent bits t buffer′ taken put =
+  run-lent bits t p buffer′ said put =
       let refusal : RunReply Recorder = record { taken = 0; number = 14; after = r } in
       let periods = closedIn (r .config) (r .state) bits in
-      taken-lent r buffer right is refusal (λ q. record { taken = t .taken; number = sampleNumber (t .answer); after = with-moved r (t .state) q }) periods (t .profile) buffer′ whole put
-      ∙ ap (λ (x : RunReply State). lentTo r buffer refusal (runBeside r x periods) periods) taken
+      taken-lent r buffer right is refusal (λ q. record { taken = t .taken; number = t .number; after = with-moved r (t .after) q }) periods p buffer′ whole put
+      ∙ ap (λ (x : RunReply State). lentTo r buffer refusal (runBeside r x periods) periods) said
 
   -- a clock set
   pub set-lent : (time : ℕ) (t : Setting) (buffer′ : List ℕ) → setSaid t ≡ replyTo (r .state) (setOf (r .config) (r .state) time)

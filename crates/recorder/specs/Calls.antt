@@ -120,6 +120,10 @@ readingNumber NoMeter = 7
 readingNumber NotFitted = 8
 readingNumber BadReading = 10
 
+-- what the code's answer to a sample says of the state
+abbrev pub takenSaid : Taking → Reply State
+takenSaid r = record { number = sampleNumber (r .answer); after = r .state }
+
 -- what the code's answer to a clock set says of the state
 abbrev pub setSaid : Setting → Reply State
 setSaid r = record { number = setNumber (r .answer); after = r .state }
@@ -191,7 +195,3 @@ clockSetSaid r = record { number = setNumber (r .answer); after = r .recorder }
 -- to a reading
 abbrev pub meterReadSaid : MeterRead → Reply Recorder
 meterReadSaid r = record { number = readingNumber (r .answer); after = r .recorder }
-
--- what the code's run of samples says of the state
-abbrev pub takenSaid : Taking → RunReply State
-takenSaid t = record { taken = t .taken; number = sampleNumber (t .answer); after = t .state }

@@ -1,4 +1,4 @@
-// Samples: runs to a closing one after another, each closing with the record of its period.
+// One sample with the closing that it may bring, and the record of a closed period.
 use crate::Period;
 use crate::SampleAnswer;
 use crate::Setup;
@@ -10,18 +10,17 @@ use profile::choose;
 use sampling::clock::close;
 use sampling::samples::take;
 ghost use mathlib.Core.Path.{_≡_};
-ghost use mathlib.Core.List.{[], _∷_};
+ghost use Rattle.laws.specs.Answers.{replyTo};
 ghost use Rattle.profile.specs.Room.{kept, withRecord, withRecords};
-ghost use Rattle.sampling.specs.Samples.{samplesOf};
-ghost use Rattle.sampling.specs.Closed.{closedIn};
+ghost use Rattle.sampling.specs.Samples.{sampleOf};
+ghost use Rattle.sampling.specs.Closed.{closedBy};
 ghost use Rattle.recorder.specs.Profile.{recordOf, recordsOf};
 ghost use Rattle.recorder.specs.Calls.{takenSaid};
 
-// What a sample came to: the state, the profile, whether it was taken, as a count, and the refusal, if there was one.
+// What a sample came to.
 pub struct Taking {
     pub state: State,
     pub profile: Profile,
-    pub taken: usize,
     pub answer: SampleAnswer,
 }
 
@@ -49,8 +48,8 @@ pub(crate) fn one(
     bits: u16,
     buffer: &mut [u8],
 ) -> Taking
-    ensures samples { λ r. ⌜ takenSaid r ≡ samplesOf config start (bits ∷ []) ⌝ }
-    ensures records { λ r. ⌜ kept (r .profile) (now (buffer .exit)) ≡ withRecords (kept profile (now (buffer .entry))) (recordsOf setup (closedIn config start (bits ∷ []))) ⌝ }
+    ensures samples { λ r. ⌜ takenSaid r ≡ replyTo start (sampleOf config start bits) ⌝ }
+    ensures records { λ r. ⌜ kept (r .profile) (now (buffer .exit)) ≡ withRecords (kept profile (now (buffer .entry))) (recordsOf setup (closedBy config (sampleOf config start bits))) ⌝ }
 {
     let alone = [bits];
     let lap = take(config, start, &alone);
@@ -60,7 +59,6 @@ pub(crate) fn one(
         return Taking {
             state,
             profile,
-            taken: lap.taken,
             answer,
         };
     }
@@ -69,7 +67,6 @@ pub(crate) fn one(
     Taking {
         state: closed,
         profile: keep(setup, profile, period, buffer),
-        taken: lap.taken,
         answer,
     }
 }

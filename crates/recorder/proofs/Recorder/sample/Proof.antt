@@ -1,4 +1,4 @@
--- `recorder::Recorder::sample` meets its contract: a run of one sample is the sample.
+-- `recorder::Recorder::sample` meets its contract.
 use borrow.Author.Needs.{needs}
 use Rattle.recorder.proofs.Lent.{sample-14, sample-lent}
 use Rattle.recorder.proofs.Recorder.sample.Statement.{statement}

@@ -67,7 +67,7 @@ returns c =
     let left = drop (l .k) (a .bits .now) in
     let ends = not-true _ (c .if2 .taken) in
     run-lent (a .self) (now (a .buffer)) _ (t .before .before .before .before .as-at-start .ensures) (ap not (t .before .before .before .if1 .taken)) (now (a .bits))
-    (record { state = t .take .result .state; profile = l .records; taken = l .k + t .take .result .taken; answer = t .take .result .answer }) (l .buffer)
+    _ (l .records) (l .buffer)
     (sym (l .inv .1 ∙ ap (later (l .k)) (run-ends (a .self .config) (l .now) left _ (lap-is t) ends)))
     (sym (l .inv .2 ∙ rw (ends-open (a .self .config) (l .now) left _ (lap-is t) ends)))
 

@@ -1,19 +1,18 @@
 -- Which periods a call closes, in the recorder and in the account, and so where the records stand.
-use mathlib.Core.Path.{_≡_, refl, sym, ap, ap₂, _∙_}
-use mathlib.Core.Bool.{true, false}
+use mathlib.Core.Path.{_≡_, refl, sym, ap₂, _∙_}
 use mathlib.Core.List.{List, [], _∷_}
 use mathlib.Core.Logic.{_⊎_, inl, inr, ⊎-elim}
 use Prim.Native.Nat.{ℕ, _+_, _/_, _%_, _≤_, min}
 use native.Mathlib.Nat.{zero-mod}
 use native.Mathlib.Omega.{arith}
 use borrow.Author.Tests.{ne-eqb}
-use lib.Dec.{eqb, ltb, leb}
+use lib.Dec.{eqb, leb}
 use lib.IntN.{ℤ}
-use lib.ListN.{length, getD}
-use Rattle.laws.specs.Answers.{given, refused, replyTo}
+use lib.ListN.{length}
+use Rattle.laws.specs.Answers.{given, replyTo}
 use Rattle.laws.proofs.Tests.{by-test}
 use Rattle.settings.specs.declared.Config.{Config}
-use Rattle.profile.specs.Room.{movedOn, movedBy}
+use Rattle.profile.specs.Room.{movedBy}
 use Rattle.profile.specs.declared.Profile.{Profile}
 use Rattle.profile.proofs.Ring.{moves-on}
 use Rattle.sampling.specs.Periods.{multiple, tickOf}
@@ -27,7 +26,7 @@ use Rattle.recorder.specs.History.{Call, sample, set, reading, reset, afterAll}
 use Rattle.recorder.specs.declared.Setup.{Setup}
 use Rattle.recorder.proofs.Sound.{start-stays}
 use Rattle.calendar.proofs.Moments.{dated-or-not}
-use Rattle.demands.specs.Account.{Entry, Ended, Account, Time, took, ended, periodsOf, numberOfSample, numberOfReading, stepped, counted, withCall, accountOf, journalOf}
+use Rattle.demands.specs.Account.{Entry, Ended, Account, periodsOf, numberOfSample, numberOfReading, stepped, counted, withCall, accountOf, journalOf}
 use Rattle.demands.specs.State.{profileIn}
 use Rattle.demands.specs.Demand2.{reached}
 use Rattle.demands.proofs.Keeps.{bookedState}

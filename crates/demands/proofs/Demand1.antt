@@ -33,7 +33,7 @@ use Rattle.profile.specs.Records.{slotsFit}
 use Rattle.profile.specs.Room.{legalLength, asAtStart, kept, withRecords}
 use Rattle.profile.specs.Reading.{heldIn, recordReply}
 use Rattle.profile.specs.declared.Profile.{Profile}
-use Rattle.profile.proofs.Places.{legal-is, start-is}
+use Rattle.profile.proofs.Places.{legal-is}
 use Rattle.sampling.specs.Closed.{closedBy, closedIn}
 use Rattle.sampling.specs.declared.Period.{Period}
 use Rattle.recorder.specs.Profile.{recordsOf, closedBySet, moved}
@@ -44,6 +44,7 @@ use Rattle.sampling.specs.declared.State.{State}
 use Rattle.registers.specs.Registers.{Group, groups, lookUp, groupOf, replyOf, registerReply}
 use Rattle.registers.proofs.Groups.{none-found}
 use Rattle.registers.proofs.Laws.{refused-leaves}
+use Rattle.demands.proofs.Starts.{legal-test, start-test, as-at-start}
 use Rattle.demands.specs.Demand1.{Refusal, at, Ordered, numbered, imageRefusals, noDate, sampleRefusals, readingRefusals, registerRefusals, writeRefusals, ageRefusals, badLength, otherLength, badSlot, recordRefusals, RunEnds, Left, SameLeft, NumbersExact, RefusedChangesNothing, Demand1}
 
 -- a refusal whose condition is a test, and what comes after it
@@ -146,21 +147,14 @@ any-some (suc n) p e =
     let l = rest .1 in
     (rest .0, omega arith, rest .2))
 
--- a length within the limits, and one that is that of the start
-legal-back : (n : ℕ) → 69 ≤ n → n ≤ 65_536 → legalLength n ≡ true
-legal-back n low high = and-both (leb 69 n) (leb n 65_536) (le-leb 69 n low) (le-leb n 65_536 high)
-
 -- 14 where the length of a lent buffer is not that of the start, and what comes after it
 lent-then : {A : Type 0} (p : Profile) (buffer : List ℕ) (rest : List Refusal) (a : Answer A) → (asAtStart p (length buffer) ≡ false → a ≡ refused 14 0)
     → (asAtStart p (length buffer) ≡ true → Ordered rest a) → Ordered (otherLength p buffer ∷ rest) a
 lent-then p buffer rest a is after =
     let n = length buffer in
     next 14 0 rest (not (asAtStart p n)) a
-    (λ t due. true≢false (sym (and-both (legalLength n) _ (legal-back n (due .0) (due .1)) (eq-eqb n (p .length) (due .2))) ∙ not-true _ t))
-    (λ f other.
-    let right = not-false (asAtStart p n) f in
-    let legal = legal-is n (and-left (legalLength n) (eqb n (p .length)) right) in
-    other (legal .0, legal .1, start-is p n right))
+    (λ t right. true≢false (sym (start-test p n right) ∙ not-true _ t))
+    (λ f other. other (as-at-start p n (not-false _ f)))
     (λ t. is (not-true _ t))
     (λ f. after (not-false _ f))
 
@@ -169,7 +163,7 @@ pub starts : (setup : Setup) (lent : ℕ) (b : List ℕ) (time : ℕ)
 unfolding startReply
 starts setup lent b time =
     next 14 0 _ (not (legalLength lent)) _
-    (λ t due. true≢false (sym (legal-back lent (due .0) (due .1)) ∙ not-true _ t))
+    (λ t legal. true≢false (sym (legal-test lent legal) ∙ not-true _ t))
     (λ f other. other (legal-is lent (not-false _ f)))
     (λ t. rw (not-true (legalLength lent) t))
     (λ f.
@@ -344,8 +338,8 @@ pub runs : (r : Recorder) (run buffer : List ℕ) → RunEnds r run buffer
 unfolding samplesLent
 runs r run buffer =
     by-test (asAtStart (r .profile) (length buffer))
-    (λ t. rw t (inr (run-ends r (r .state) run)))
-    (λ f. rw f (inl ((refl, λ right. true≢false (sym (and-both (legalLength (length buffer)) _ (legal-back (length buffer) (right .0) (right .1)) (eq-eqb _ _ (right .2))) ∙ f)), refl, refl)))
+    (λ t. rw t (inr (as-at-start (r .profile) (length buffer) t, run-ends r (r .state) run)))
+    (λ f. rw f (inl ((λ right. true≢false (sym (start-test (r .profile) (length buffer) right) ∙ f)), refl, refl)))
 
 -- a run is the run of those samples that it takes: the state, and the periods that it closes
 run-leaves : (c : Config) (s : State) (run : List ℕ) →

@@ -13,8 +13,7 @@ use Rattle.settings.specs.declared.Config.{Config}
 use Rattle.sampling.specs.Samples.{sampleOf, samplesOf}
 use Rattle.sampling.specs.Closed.{closedBy, closedOn, closedIn}
 use Rattle.sampling.specs.declared.State.{State}
-use Rattle.profile.specs.Room.{movedOn, movedBy}
-use Rattle.profile.specs.declared.Profile.{Profile}
+use Rattle.profile.specs.Room.{movedBy}
 use Rattle.profile.specs.declared.records.Record.{Record}
 use Rattle.profile.proofs.Puts.{moved-append}
 use Rattle.recorder.specs.Profile.{recordOf, recordsOf}

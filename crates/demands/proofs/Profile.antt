@@ -1,16 +1,15 @@
 -- CR 1 over histories: after any sequence the recorder is the one that the calls that count reach, and its buffer the one into which the records of the account's periods were put.
 use mathlib.Core.Path.{_≡_, refl, sym, ap, ap₂, _∙_}
-use mathlib.Core.Bool.{true, false, true≢false}
-use mathlib.Core.List.{List, [], _∷_, _++_, map, reverse}
+use mathlib.Core.Bool.{true, false}
+use mathlib.Core.List.{List, [], _∷_, map, reverse}
 use mathlib.Core.Logic.{⊎-elim}
 use Prim.Native.Nat.{ℕ, _/_, _<_, min}
 use native.Mathlib.Omega.{arith}
-use borrow.Author.Tests.{le-leb, lt-leb, le-ltb, eq-eqb}
-use lib.Dec.{eqb}
+use borrow.Author.Tests.{le-leb, lt-leb, le-ltb}
 use lib.IntN.{ℤ, pos}
-use lib.ListN.{length, getD, take, drop, length-map, length-take, length-reverse}
+use lib.ListN.{length, getD, take, length-map, length-take, length-reverse}
 use Rattle.laws.specs.Each.{Each}
-use Rattle.laws.proofs.Tests.{by-test, and-both, and-right}
+use Rattle.laws.proofs.Tests.{by-test}
 use Rattle.laws.proofs.Cycles.{take-map, reverse-map, at-map}
 use Rattle.laws.specs.Tables.{table}
 use Rattle.laws.proofs.Tables.{length-table, table-at, table-cong}
@@ -22,43 +21,66 @@ use Rattle.profile.specs.Reading.{heldIn, recordAt, placeAt, recordReply}
 use Rattle.profile.specs.Laws.{profileAfter, putAll, lastOf, EightValues, HoldsLast}
 use Rattle.profile.specs.declared.Profile.{Profile}
 use Rattle.profile.specs.declared.records.Record.{Record}
-use Rattle.profile.proofs.Places.{start-is}
 use Rattle.profile.proofs.Puts.{records-append}
-use Rattle.profile.proofs.Ring.{last-records}
+use Rattle.profile.proofs.Ring.{room-alone, last-records}
 use Rattle.sampling.specs.Samples.{sampleOf}
 use Rattle.sampling.specs.Closed.{closedBy, closedIn}
 use Rattle.sampling.specs.declared.Period.{Period}
 use Rattle.sampling.specs.declared.State.{State}
 use Rattle.recorder.specs.Clock.{setOf}
-use Rattle.recorder.specs.Profile.{recordOf, recordsOf, closedBySet}
-use Rattle.recorder.specs.Calls.{sampleLent, samplesLent, setLent}
+use Rattle.recorder.specs.Profile.{recordOf, recordsOf, closedBySet, lentTo}
+use Rattle.recorder.specs.Calls.{profileBuffer, sampleReply, samplesReply, setReply, sampleLent, samplesLent, setLent}
 use Rattle.recorder.specs.History.{Call, sample, set, reading, reset, afterAll}
 use Rattle.recorder.specs.declared.Recorder.{Recorder}
 use Rattle.recorder.specs.declared.Setup.{Setup}
 use Rattle.recorder.proofs.Sound.{start-stays}
 use Rattle.demands.specs.Account.{Account, Ended, periodsOf, accountOf, journalOf}
-use Rattle.demands.specs.Starts.{Accepted, LegalLength, SlotsFit}
+use Rattle.demands.specs.Starts.{Accepted, LegalLength, AsAtStart, SlotsFit}
 use Rattle.demands.specs.State.{valueOf, lastPeriod, stateIn}
 use Rattle.demands.specs.Demand2.{reached, takenIn, withSamples}
-use Rattle.demands.specs.Profile.{Made, call, run, sample-with, run-with, set-with, Hall, afterMade, afterSequence, OwnBuffer, callsOf, recordShown, lastPeriods, noPeriod, ProfileKept, ProfileOfHistory, RecorderOfSequence, OtherLength, LoadProfile}
-use Rattle.demands.proofs.Agrees.{stateAfter, state-after, agrees}
+use Rattle.demands.specs.Profile.{Made, call, run, sample-with, run-with, set-with, Hall, afterMade, afterSequence, OwnBuffer, callsOf, recordShown, lastPeriods, noPeriod, ProfileKept, ProfileOfHistory, RecorderOfSequence, Answered, AnswersOfSequence, OtherLength, RestKept, PastTheRoom, LoadProfile}
+use Rattle.demands.proofs.Agrees.{stateAfter, state-after, agrees, answers-of-history}
 use Rattle.demands.proofs.Closings.{closedWith, call-periods, profile-is}
 use Rattle.demands.proofs.Levels.{state-is, state-of-history}
+use Rattle.demands.proofs.Starts.{legal-test, start-test, as-at-start, blank-refuses}
 use Rattle.demands.proofs.Demand2.{by-samples, runs-of-history}
 
 -- Another length
 
 -- a length that is not that of the start
-not-right : (p : Profile) (n : ℕ) → (n ≡ p .length → ⊥) → asAtStart p n ≡ false
-not-right p n other = by-test (asAtStart p n) (λ t. absurd (other (start-is p n t))) (λ f. f)
+not-right : (p : Profile) (n : ℕ) → (AsAtStart p n → ⊥) → asAtStart p n ≡ false
+not-right p n other = by-test (asAtStart p n) (λ t. absurd (other (as-at-start p n t))) (λ f. f)
 
 pub other-length : OtherLength
-unfolding sampleLent samplesLent setLent
+unfolding sampleLent samplesLent setLent recordReply
 other-length =
     record {
       samples = λ r buffer other bits. rw (not-right (r .profile) (length buffer) other);
       runs = λ r buffer other bits. rw (not-right (r .profile) (length buffer) other);
       sets = λ r buffer other seconds. rw (not-right (r .profile) (length buffer) other);
+      records = λ r buffer other index result. rw (not-right (r .profile) (length buffer) other);
+    }
+
+-- Past the room
+
+eight-values : (setup : Setup) (periods : List Period) → Each EightValues (recordsOf setup periods)
+unfolding chosenValues
+eight-values setup [] = tt
+eight-values setup (p ∷ l) = (length-table 8 _, eight-values setup l)
+
+-- what a call that is lent a buffer leaves of it
+rest-kept : {Reply : Type 0} (r : Recorder) (buffer : List ℕ) (refusal reply : Reply) (periods : List Period) → RestKept buffer (lentTo r buffer refusal reply periods .buffer)
+rest-kept r buffer refusal reply periods =
+    let alone = room-alone (kept (r .profile) buffer) (recordsOf (r .setup) periods) (eight-values (r .setup) periods) in
+    by-test (asAtStart (r .profile) (length buffer)) (λ t. rw t (alone .1, alone .0)) (λ f. rw f (refl, refl))
+
+pub past-the-room : PastTheRoom
+unfolding sampleLent samplesLent setLent
+past-the-room =
+    record {
+      samples = λ r buffer bits. rest-kept r buffer (profileBuffer r) (sampleReply r bits) (closedBy (r .config) (sampleOf (r .config) (r .state) bits));
+      runs = λ r buffer bits. rest-kept r buffer (record { taken = 0; number = 14; after = r }) (samplesReply r bits) (closedIn (r .config) (r .state) bits);
+      sets = λ r buffer seconds. rest-kept r buffer (profileBuffer r) (setReply r seconds) (closedBySet (setOf (r .config) (r .state) seconds));
     }
 
 -- Records of the account
@@ -86,7 +108,7 @@ closed-in c a = refl
 
 module _ (setup : Setup) (fit : SlotsFit setup) (c : Config) (accepted : Accepted c) (time : ℕ) (buffer : List ℕ) (limits : LegalLength (length buffer)) where
   legal : legalLength (length buffer) ≡ true
-  legal = and-both _ _ (le-leb 69 (length buffer) (limits .0)) (le-leb (length buffer) 65_536 (limits .1))
+  legal = legal-test (length buffer) limits
 
   -- the recorder that calls reach, and the records of the periods that they closed
   abbrev at : List Call → Recorder
@@ -123,7 +145,7 @@ module _ (setup : Setup) (fit : SlotsFit setup) (c : Config) (accepted : Accepte
   right : (calls : List Call) → asAtStart (at calls .profile) (length (put calls .buffer)) ≡ true
   right calls =
       let long = holds calls .same in
-      and-both (legalLength (length (put calls .buffer))) _ (rw long legal) (eq-eqb _ _ (long ∙ sym (start-stays setup (length buffer) c time calls .2)))
+      start-test (at calls .profile) (length (put calls .buffer)) (rw long limits, long ∙ sym (start-stays setup (length buffer) c time calls .2))
 
   -- a call puts the records of the periods that it closes
   one-call : (calls : List Call) (x : Call) → withRecords (put calls) (recordsOf setup (closedWith c (at calls .state) x)) ≡ put (x ∷ calls)
@@ -157,8 +179,8 @@ module _ (setup : Setup) (fit : SlotsFit setup) (c : Config) (accepted : Accepte
   one-run = by-samples setup (length buffer) withRecords (λ k. refl) records-append c time put (λ calls bits. one-call calls (sample bits))
 
   -- a call that is lent another length leaves the recorder
-  stays-put : (calls : List Call) (other : List ℕ) → (length other ≡ length buffer → ⊥) → length other ≡ at calls .profile .length → ⊥
-  stays-put calls other differs e = differs (e ∙ start-stays setup (length buffer) c time calls .2)
+  stays-put : (calls : List Call) (other : List ℕ) → (length other ≡ length buffer → ⊥) → AsAtStart (at calls .profile) (length other) → ⊥
+  stays-put calls other differs right = differs (right .1 ∙ start-stays setup (length buffer) c time calls .2)
 
   made : (calls : List Call) (x : Call) → afterMade (hall calls) (call x) ≡ hall (x ∷ calls)
   unfolding sampleLent setLent afterAll
@@ -230,8 +252,18 @@ module _ (setup : Setup) (fit : SlotsFit setup) (c : Config) (accepted : Accepte
         held = ap (λ (p : Profile). p .held) (profile-is setup (length buffer) c (limits .0) time calls);
         records = λ i l result enough. rw (right calls, lt-leb (heldIn (at calls .profile)) i (rw (held-is calls) l), le-ltb (length result) 69 enough, shown-at calls i l);
         no-record = λ i l result. rw (right calls, le-leb (heldIn (at calls .profile)) i (rw (held-is calls) l));
-        rest = holds calls .rest;
+        rest = rw (length-map (periods calls) (recordIn setup c)) at (holds calls .rest);
         same-length = holds calls .same;
+      }
+
+  -- what calls are answered after them
+  pub answers : (calls : List Call) → Answered c (accountOf c time calls) (hall calls)
+  unfolding sampleLent samplesLent setLent
+  answers calls =
+      record {
+        samples = λ bits. rw (right calls) (answers-of-history setup (length buffer) c time calls (sample bits));
+        sets = λ seconds. rw (right calls) (answers-of-history setup (length buffer) c time calls (set seconds));
+        runs = λ bits. let same = runs-of-history setup (length buffer) c time calls bits in rw (right calls) (same .0, same .1);
       }
 
 pub profile-of-history : ProfileOfHistory
@@ -242,5 +274,17 @@ pub recorder-of-sequence : RecorderOfSequence
 recorder-of-sequence setup fit c accepted time buffer limits sequence own =
     rw (reaches setup fit c accepted time buffer limits sequence own) (state-of-history setup (length buffer) c accepted (limits .0) time (callsOf c time sequence))
 
+pub answers-of-sequence : AnswersOfSequence
+answers-of-sequence setup fit c accepted time buffer limits sequence own =
+    rw (reaches setup fit c accepted time buffer limits sequence own) (answers setup fit c accepted time buffer limits (callsOf c time sequence))
+
 pub cr-1 : LoadProfile
-cr-1 = record { profile = profile-of-history; recorder = recorder-of-sequence; other-length = other-length }
+cr-1 =
+    record {
+      profile = profile-of-history;
+      recorder = recorder-of-sequence;
+      answers = answers-of-sequence;
+      other-length = other-length;
+      blank-refuses = blank-refuses;
+      past-the-room = past-the-room;
+    }

@@ -1,7 +1,7 @@
 -- The five periods are those of the account, computed; their records are read by the theorem.
 use mathlib.Core.Path.{_≡_, refl, sym, ap, _∙_}
 use mathlib.Core.List.{List, [], _∷_, map, append-nil}
-use Prim.Native.Nat.{ℕ, zero, suc, _*_, _/_, _<_}
+use Prim.Native.Nat.{ℕ, zero, suc, _/_, _<_, min}
 use native.Mathlib.Omega.{arith}
 use lib.ListN.{length, getD, drop, replicate, length-map}
 use Rattle.laws.specs.Any.{any}
@@ -85,8 +85,8 @@ module _ (buffer : List ℕ) (limits : LegalLength (length buffer)) where
   holds = rw (← closed-five) (profile-of-history chosen chosen-fit twoMakers two-accepted start buffer limits fivePeriods own)
 
   -- what is read, where the records are these
-  shows : (records : List (List ℕ)) → shownLast (length buffer) ≡ records → 69 * length records ≡ 69 * (length buffer / 69) → Shows buffer records
-  shows records are room =
+  shows : (records : List (List ℕ)) → shownLast (length buffer) ≡ records → length records ≡ min 5 (length buffer / 69) → Shows buffer records
+  shows records are count =
       let last = lastPeriods (length buffer) five in
       let many : length last ≡ length records = sym (length-map last (recordShown twoMakers chosen)) ∙ ap length are in
       record {
@@ -96,12 +96,12 @@ module _ (buffer : List ℕ) (limits : LegalLength (length buffer)) where
             ∙ ap (λ (bytes : List ℕ). record { answer = given tt; result = bytes })
             (append-nil (recordShown twoMakers chosen (getD last i noPeriod)) ∙ sym (made-at (recordShown twoMakers chosen) last i few) ∙ ap (λ (l : List (List ℕ)). getD l i []) are);
         no-more = ap (λ (r : RecordReply). r .answer) (holds .no-record (length records) (omega (arith, many)) (replicate 69 0));
-        rest = rw room (holds .rest);
+        rest = rw count (holds .rest);
       }
 
 -- where the length of the buffer is a number
-at-length : (n : ℕ) → LegalLength n → (records : List (List ℕ)) → shownLast n ≡ records → 69 * length records ≡ 69 * (n / 69) → (buffer : List ℕ) → length buffer ≡ n → Shows buffer records
-at-length n limits records are room buffer long = shows buffer (rw long limits) records (rw long are) (rw long room)
+at-length : (n : ℕ) → LegalLength n → (records : List (List ℕ)) → shownLast n ≡ records → length records ≡ min 5 (n / 69) → (buffer : List ℕ) → length buffer ≡ n → Shows buffer records
+at-length n limits records are count buffer long = shows buffer (rw long limits) records (rw long are) (rw long count)
 
 pub profile-cases : ProfileCases
 unfolding table joined bytesOf recordShown valueOf sumOf total totalℤ bitAt
@@ -111,4 +111,5 @@ profile-cases =
       two = at-length 138 (omega arith, omega arith) (drop 3 fiveRecords) refl refl;
       two-and-68-bytes = at-length 206 (omega arith, omega arith) (drop 3 fiveRecords) refl refl;
       five = at-length 345 (omega arith, omega arith) fiveRecords refl refl;
+      room-left = at-length 500 (omega arith, omega arith) fiveRecords refl refl;
     }

@@ -1,12 +1,13 @@
--- A start call that is answered without a refusal: its configuration is accepted, and its recorder is the fresh start of a history.
+-- The length of a lent buffer. A start call that is answered without a refusal: its configuration is accepted, and its recorder is the fresh start of a history. A refused one gives the blank recorder.
 use mathlib.Core.Path.{_≡_, refl}
 use mathlib.Core.Bool.{true}
 use mathlib.Core.List.{List, [], _∷_, _++_}
 use Prim.Native.Nat.{ℕ, zero, suc, _*_, _<_}
 use native.Mathlib.Omega.{arith}
-use borrow.Author.Tests.{ltb-false, not-true}
+use borrow.Author.Tests.{le-leb, eq-eqb, ltb-false, not-true}
+use lib.Dec.{leb, eqb}
 use lib.ListN.{getD, drop}
-use Rattle.laws.proofs.Tests.{by-test}
+use Rattle.laws.proofs.Tests.{by-test, and-left, and-both}
 use Rattle.laws.proofs.Any.{any-not}
 use Rattle.laws.specs.Answers.{Answer, given, refused}
 use Rattle.laws.specs.Bytes.{Bytes, le}
@@ -21,11 +22,23 @@ use Rattle.image.specs.Answers.{imageAnswer, imageConfig}
 use Rattle.settings.specs.declared.Input.{Input}
 use Rattle.image.proofs.Found.{read-holds}
 use Rattle.profile.specs.Records.{slotsFit}
-use Rattle.profile.specs.Room.{legalLength}
-use Rattle.profile.proofs.Places.{legal-is}
-use Rattle.recorder.specs.Calls.{freshStart, startDated, startFrom, startReply}
+use Rattle.profile.specs.Room.{legalLength, asAtStart}
+use Rattle.profile.specs.declared.Profile.{Profile}
+use Rattle.profile.proofs.Places.{legal-is, start-is}
+use Rattle.recorder.specs.Calls.{freshStart, blankRecorder, startDated, startFrom, startReply}
 use Rattle.recorder.specs.declared.Setup.{Setup}
-use Rattle.demands.specs.Starts.{Accepted, SlotsFit, StartIsFresh}
+use Rattle.demands.specs.Starts.{Accepted, LegalLength, AsAtStart, SlotsFit, StartIsFresh}
+use Rattle.demands.specs.Profile.{BlankRefuses}
+
+-- the tests of a length are what they say
+pub legal-test : (n : ℕ) → LegalLength n → legalLength n ≡ true
+legal-test n h = and-both (leb 69 n) (leb n 65_536) (le-leb 69 n (h .0)) (le-leb n 65_536 (h .1))
+
+pub start-test : (p : Profile) (n : ℕ) → AsAtStart p n → asAtStart p n ≡ true
+start-test p n h = and-both (legalLength n) _ (legal-test n (h .0)) (eq-eqb n (p .length) (h .1))
+
+pub as-at-start : (p : Profile) (n : ℕ) → asAtStart p n ≡ true → AsAtStart p n
+as-at-start p n t = (legal-is n (and-left (legalLength n) (eqb n (p .length)) t), start-is p n t)
 
 -- the longest run is a byte
 abbrev ByteRun : Input → Type 0
@@ -80,3 +93,26 @@ start-is-fresh setup lent b bytes time e =
         → Accepted (imageConfig b) × (startFrom a setup lent (imageConfig b) time .recorder ≡ freshStart setup lent (imageConfig b) time)
     go (given u) i e = (image-accepted b bytes i, dated (momentOf time) e)
     go (refused n offset) i e = let z : _≡_ {A = ℕ} 0 1 = cc in absurd (omega arith)
+
+pub blank-refuses : BlankRefuses
+unfolding startReply blankRecorder
+blank-refuses = record { refused-start = refused-start; no-length = λ n h. let (legal, none) = h in let low = legal .0 in omega arith }
+  where
+    dated : (setup : Setup) (lent : ℕ) (b : List ℕ) (time n offset : ℕ) (m : Answer Moment) → startDated m setup lent (imageConfig b) time .answer ≡ refused n offset
+        → startDated m setup lent (imageConfig b) time .recorder ≡ blankRecorder
+    dated setup lent b time n offset (given m) e = let z : _≡_ {A = ℕ} 0 1 = cc in absurd (omega arith)
+    dated setup lent b time n offset (refused k o) e = refl
+
+    go : (setup : Setup) (lent : ℕ) (b : List ℕ) (time n offset : ℕ) (a : Answer (Unit {0})) → startFrom a setup lent (imageConfig b) time .answer ≡ refused n offset
+        → startFrom a setup lent (imageConfig b) time .recorder ≡ blankRecorder
+    go setup lent b time n offset (given u) e = dated setup lent b time n offset (momentOf time) e
+    go setup lent b time n offset (refused k o) e = refl
+
+    refused-start : (setup : Setup) (lent : ℕ) (b : List ℕ) (time n offset : ℕ) → startReply setup lent b time .answer ≡ refused n offset → startReply setup lent b time .recorder ≡ blankRecorder
+    refused-start setup lent b time n offset e =
+        by-test (legalLength lent)
+        (λ legal.
+        by-test (slotsFit (setup .slots))
+        (λ fit. rw (legal, fit) (go setup lent b time n offset (imageAnswer b) (rw (legal, fit) at e)))
+        (λ f. rw (legal, f)))
+        (λ f. rw f)

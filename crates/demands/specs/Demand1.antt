@@ -31,6 +31,7 @@ use Rattle.profile.specs.declared.Profile.{Profile}
 use Rattle.recorder.specs.declared.Recorder.{Recorder}
 use Rattle.recorder.specs.declared.Setup.{Setup}
 use Rattle.registers.specs.Registers.{Group, groups, groupOf, registersOf, fitted, registerReply}
+use Rattle.demands.specs.Starts.{LegalLength, AsAtStart}
 
 -- a refusal of document 01's table: its number, and when it is due, with which offset
 pub record Refusal : Type 1 where
@@ -112,11 +113,11 @@ ageRefusals limit status = at 8 0 (limit ≡ 0) ∷ at 10 0 (7 < status) ∷ []
 
 -- "14 PROFILE BUFFER, for a length outside those limits", of a start
 abbrev pub badLength : ℕ → Refusal
-badLength n = at 14 0 ((69 ≤ n) × (n ≤ 65_536) → ⊥)
+badLength n = at 14 0 (LegalLength n → ⊥)
 
 -- "or other than at the start", of each other call that is lent the buffer
 abbrev pub otherLength : Profile → List ℕ → Refusal
-otherLength p buffer = at 14 0 ((69 ≤ length buffer) × (length buffer ≤ 65_536) × (length buffer ≡ p .length) → ⊥)
+otherLength p buffer = at 14 0 (AsAtStart p (length buffer) → ⊥)
 
 -- "8 NOT FITTED, for a chosen slot above 15"
 abbrev pub badSlot : Setup → Refusal
@@ -126,13 +127,13 @@ badSlot setup = at 8 0 ((k : ℕ) × (k < 8) × (15 < getD (setup .slots) k 0))
 abbrev pub recordRefusals : Profile → ℕ → List ℕ → List ℕ → List Refusal
 recordRefusals p index buffer result = otherLength p buffer ∷ at 15 0 (heldIn p ≤ index) ∷ at 13 0 (length result < 69) ∷ []
 
--- a run of samples: 14 where the buffer has another length; else all were taken, or the first that was not is refused with its own number, on the recorder that the others left
+-- a run of samples: 14 exactly where the buffer has another length, and none is taken; else all were taken, or the first that was not is refused with its own number, on the recorder that the others left
 abbrev pub RunEnds : Recorder → List ℕ → List ℕ → Type 0
 RunEnds r run buffer =
     let reply = samplesLent r run buffer .reply in
-    (otherLength (r .profile) buffer .due 0 × (reply .taken ≡ 0) × (reply .number ≡ 14))
-    ⊎ ((reply .taken ≡ length run) × (reply .number ≡ 0))
-    ⊎ ((reply .taken < length run) × (reply .number ≡ 0 → ⊥) × Ordered (sampleRefusals (reply .after) (getD run (reply .taken) 0)) (numbered (reply .number)))
+    let all = (reply .taken ≡ length run) × (reply .number ≡ 0) in
+    let some = (reply .taken < length run) × (reply .number ≡ 0 → ⊥) × Ordered (sampleRefusals (reply .after) (getD run (reply .taken) 0)) (numbered (reply .number)) in
+    ((AsAtStart (r .profile) (length buffer) → ⊥) × (reply .taken ≡ 0) × (reply .number ≡ 14)) ⊎ (AsAtStart (r .profile) (length buffer) × (all ⊎ some))
 
 -- each call, on every recorder, ends with its result or with exactly the number that the rules name: "Order: start 1, 2, 3, 4, 9; sample 5, 6; reading 7, 8, 10; register 11, 12, 8, 13. Clock sets can give only 9",
 -- and of CR 1 14 "before anything else", 8 "next"; a record 14, 15, 13

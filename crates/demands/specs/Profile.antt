@@ -15,14 +15,14 @@ use Rattle.settings.specs.Rules.{zeroSlot}
 use Rattle.settings.specs.declared.Config.{Config}
 use Rattle.profile.specs.Reading.{recordReply}
 use Rattle.recorder.specs.Profile.{withBuffer}
-use Rattle.recorder.specs.Calls.{freshStart, readingReply, resetReply, profileBuffer, sampleLent, samplesLent, setLent}
+use Rattle.recorder.specs.Calls.{freshStart, blankRecorder, startReply, readingReply, resetReply, sampleLent, samplesLent, setLent}
 use Rattle.recorder.specs.History.{Call, sample, set, reading, reset}
 use Rattle.recorder.specs.declared.Recorder.{Recorder}
 use Rattle.recorder.specs.declared.Setup.{Setup}
-use Rattle.demands.specs.Account.{Ended, periodsOf, accountOf, journalOf}
-use Rattle.demands.specs.Starts.{Accepted, LegalLength, SlotsFit}
+use Rattle.demands.specs.Account.{Account, Ended, periodsOf, answerOf, accountOf, journalOf}
+use Rattle.demands.specs.Starts.{Accepted, LegalLength, AsAtStart, SlotsFit}
 use Rattle.demands.specs.State.{valueOf, stateIn, profileIn}
-use Rattle.demands.specs.Demand2.{takenIn, withSamples}
+use Rattle.demands.specs.Demand2.{takenIn, endOf, withSamples}
 
 -- A sequence of calls, and the buffer that is lent to them
 
@@ -106,37 +106,77 @@ pub record ProfileKept (setup : Setup) (c : Config) (buffer : List ℕ) (periods
   -- "15 NO RECORD, for an index not held"
   pub no-record : (i : ℕ) → length (lastPeriods (length buffer) periods) ≤ i → (result : List ℕ)
       → recordReply (x .recorder .profile) i (x .buffer) result ≡ record { answer = refused 15 0; result = result }
-  -- "Bytes past the last whole record's room are never written"
-  pub rest : drop (69 * (length buffer / 69)) (x .buffer) ≡ drop (69 * (length buffer / 69)) buffer
+  -- what stands behind the records is as it was at the start: the places that none has taken yet, and the bytes past the last whole record's room
+  pub rest : let held = min (length periods) (length buffer / 69) in drop (69 * held) (x .buffer) ≡ drop (69 * held) buffer
   pub same-length : length (x .buffer) ≡ length buffer
+
+-- what is so of each start in the field and after each sequence of calls, where only the recorder writes to the buffer
+abbrev pub AfterAnySequence : (Setup → Config → ℕ → List ℕ → List Made → Type 0) → Type 0
+AfterAnySequence Claim =
+    (setup : Setup) → SlotsFit setup → (c : Config) → Accepted c → (time : ℕ) (buffer : List ℕ) → LegalLength (length buffer)
+    → (sequence : List Made) → Each (OwnBuffer (length buffer)) sequence → Claim setup c time buffer sequence
 
 -- "the buffer holds the last records, as many as fit"
 abbrev pub ProfileOfHistory : Type 0
 ProfileOfHistory =
-    (setup : Setup) → SlotsFit setup → (c : Config) → Accepted c → (time : ℕ) (buffer : List ℕ) → LegalLength (length buffer)
-    → (sequence : List Made) → Each (OwnBuffer (length buffer)) sequence
-    → ProfileKept setup c buffer (periodsOf c (journalOf c time (callsOf c time sequence))) (afterSequence setup c time buffer sequence)
+    AfterAnySequence (λ setup c time buffer sequence.
+    ProfileKept setup c buffer (periodsOf c (journalOf c time (callsOf c time sequence))) (afterSequence setup c time buffer sequence))
 
 -- and the recorder is what the calls that count say, as in demand 2
 abbrev pub RecorderOfSequence : Type 0
 RecorderOfSequence =
-    (setup : Setup) → SlotsFit setup → (c : Config) → Accepted c → (time : ℕ) (buffer : List ℕ) → LegalLength (length buffer)
-    → (sequence : List Made) → Each (OwnBuffer (length buffer)) sequence
-    → let a = accountOf c time (callsOf c time sequence) in
+    AfterAnySequence (λ setup c time buffer sequence.
+    let a = accountOf c time (callsOf c time sequence) in
     afterSequence setup c time buffer sequence .recorder
-    ≡ record { config = c; setup = setup; state = stateIn c a; profile = profileIn (length buffer) (periodsOf c (a .journal)) }
+    ≡ record { config = c; setup = setup; state = stateIn c a; profile = profileIn (length buffer) (periodsOf c (a .journal)) })
 
--- a call that is lent another length is refused with 14 and changes nothing: on every recorder, with every buffer
+-- what calls that are lent the buffer are answered, and of a run how many samples are taken, where this is the account
+pub record Answered (c : Config) (a : Account) (x : Hall) : Type 0 where
+  pub samples : (bits : ℕ) → sampleLent (x .recorder) bits (x .buffer) .reply .number ≡ answerOf c a (sample bits)
+  pub sets : (seconds : ℕ) → setLent (x .recorder) seconds (x .buffer) .reply .number ≡ answerOf c a (set seconds)
+  pub runs : (bits : List ℕ) →
+      let reply = samplesLent (x .recorder) bits (x .buffer) .reply in (reply .taken ≡ takenIn c a bits) × (reply .number ≡ endOf c a bits)
+
+-- and each is answered as the account says
+abbrev pub AnswersOfSequence : Type 0
+AnswersOfSequence =
+    AfterAnySequence (λ setup c time buffer sequence.
+    Answered c (accountOf c time (callsOf c time sequence)) (afterSequence setup c time buffer sequence))
+
+-- Every recorder, whatever is in it, and every buffer
+
+-- a call that is lent another length is refused with 14 and changes nothing
 pub record OtherLength : Type 0 where
-  pub samples : (r : Recorder) (buffer : List ℕ) → (length buffer ≡ r .profile .length → ⊥) → (bits : ℕ)
+  pub samples : (r : Recorder) (buffer : List ℕ) → (AsAtStart (r .profile) (length buffer) → ⊥) → (bits : ℕ)
       → sampleLent r bits buffer ≡ withBuffer (record { number = 14; after = r }) buffer
-  pub runs : (r : Recorder) (buffer : List ℕ) → (length buffer ≡ r .profile .length → ⊥) → (bits : List ℕ)
+  pub runs : (r : Recorder) (buffer : List ℕ) → (AsAtStart (r .profile) (length buffer) → ⊥) → (bits : List ℕ)
       → samplesLent r bits buffer ≡ withBuffer (record { taken = 0; number = 14; after = r }) buffer
-  pub sets : (r : Recorder) (buffer : List ℕ) → (length buffer ≡ r .profile .length → ⊥) → (seconds : ℕ)
+  pub sets : (r : Recorder) (buffer : List ℕ) → (AsAtStart (r .profile) (length buffer) → ⊥) → (seconds : ℕ)
       → setLent r seconds buffer ≡ withBuffer (record { number = 14; after = r }) buffer
+  pub records : (r : Recorder) (buffer : List ℕ) → (AsAtStart (r .profile) (length buffer) → ⊥) → (index : ℕ) (result : List ℕ)
+      → recordReply (r .profile) index buffer result ≡ record { answer = refused 14 0; result = result }
+
+-- a refused start hands back the blank recorder, and no length is that of its start: so every call that lends it a buffer is refused with 14
+pub record BlankRefuses : Type 0 where
+  pub refused-start : (setup : Setup) (lent : ℕ) (image : List ℕ) (time n offset : ℕ)
+      → startReply setup lent image time .answer ≡ refused n offset → startReply setup lent image time .recorder ≡ blankRecorder
+  pub no-length : (n : ℕ) → AsAtStart (blankRecorder .profile) n → ⊥
+
+-- the buffer after a call is as long as before, and the bytes past the last whole record's room are the same
+abbrev pub RestKept : List ℕ → List ℕ → Type 0
+RestKept before after = (length after ≡ length before) × (let past = 69 * (length before / 69) in drop past after ≡ drop past before)
+
+-- "Bytes past the last whole record's room are never written", by no call
+pub record PastTheRoom : Type 0 where
+  pub samples : (r : Recorder) (buffer : List ℕ) (bits : ℕ) → RestKept buffer (sampleLent r bits buffer .buffer)
+  pub runs : (r : Recorder) (buffer : List ℕ) (bits : List ℕ) → RestKept buffer (samplesLent r bits buffer .buffer)
+  pub sets : (r : Recorder) (buffer : List ℕ) (seconds : ℕ) → RestKept buffer (setLent r seconds buffer .buffer)
 
 -- CR 1, in one
 pub record LoadProfile : Type 0 where
   pub profile : ProfileOfHistory
   pub recorder : RecorderOfSequence
+  pub answers : AnswersOfSequence
   pub other-length : OtherLength
+  pub blank-refuses : BlankRefuses
+  pub past-the-room : PastTheRoom

@@ -1,4 +1,4 @@
--- CR 1 worked out: five periods of the two makers' recorder (Example.antt), each closed as short by a clock set, in buffers with room for one, two and five records. The bytes were worked out by hand.
+-- CR 1 worked out: five periods of the two makers' recorder (Example.antt), each closed as short by a clock set, in buffers with room for one, two, five and seven records. The bytes were worked out by hand.
 use mathlib.Core.Path.{_≡_}
 use mathlib.Core.List.{List, [], _∷_, _++_, reverse}
 use Prim.Native.Nat.{ℕ, _*_, _/_, _<_}
@@ -51,7 +51,7 @@ fiveRecords =
     ∷ shortRecord 96 234 3 minus2
     ∷ []
 
--- from a start with this buffer on, these records are read and no others, and the bytes past the room are as they were
+-- from a start with this buffer on, these records are read and no others, and the bytes behind them are as they were
 pub record Shows (buffer : List ℕ) (records : List (List ℕ)) : Type 0 where
   pub each : (i : ℕ) → i < length records →
       let x = afterSequence chosen twoMakers start buffer fivePeriods in
@@ -61,9 +61,10 @@ pub record Shows (buffer : List ℕ) (records : List (List ℕ)) : Type 0 where
   pub rest : let x = afterSequence chosen twoMakers start buffer fivePeriods in
       drop (69 * length records) (x .buffer) ≡ drop (69 * length records) buffer
 
--- the last one, the last two, and all five, whatever the buffer held
+-- the last one, the last two, and all five, with room for one, two, five and seven, whatever the buffer held
 pub record ProfileCases : Type 0 where
   pub one : (buffer : List ℕ) → length buffer ≡ 69 → Shows buffer (drop 4 fiveRecords)
   pub two : (buffer : List ℕ) → length buffer ≡ 138 → Shows buffer (drop 3 fiveRecords)
   pub two-and-68-bytes : (buffer : List ℕ) → length buffer ≡ 206 → Shows buffer (drop 3 fiveRecords)
   pub five : (buffer : List ℕ) → length buffer ≡ 345 → Shows buffer fiveRecords
+  pub room-left : (buffer : List ℕ) → length buffer ≡ 500 → Shows buffer fiveRecords

@@ -10,6 +10,7 @@ use Rattle.settings.specs.declared.Config.{Config}
 use Rattle.counting.specs.Filter.{inputAt}
 use Rattle.recorder.specs.Calls.{freshStart, startReply}
 use Rattle.recorder.specs.Laws.{Good}
+use Rattle.profile.specs.declared.Profile.{Profile}
 use Rattle.recorder.specs.declared.Setup.{Setup}
 
 -- a configuration that the image check accepts: each entry keeps its rule, and the longest runs are bytes, as the image has them
@@ -20,6 +21,10 @@ pub record Accepted (c : Config) : Type 0 where
 -- the buffer that is lent has a length "of 69 to 65,536 bytes"
 abbrev pub LegalLength : ℕ → Type 0
 LegalLength n = (69 ≤ n) × (n ≤ 65_536)
+
+-- and in each call after the start the same
+abbrev pub AsAtStart : Profile → ℕ → Type 0
+AsAtStart p n = LegalLength n × (n ≡ p .length)
 
 -- each chosen slot is one of the sixteen
 abbrev pub SlotsFit : Setup → Type 0

@@ -1,12 +1,12 @@
 -- Stores into a list: a number byte by byte, a copy element by element, and the parts of a list beside what was stored.
-use mathlib.Core.Path.{_≡_, refl, sym, _∙_}
+use mathlib.Core.Path.{_≡_, refl, sym, ap, _∙_}
 use mathlib.Core.List.{List, [], _∷_, _++_, append-assoc}
 use Prim.Native.Nat.{ℕ, zero, suc, _+_, _-_, _/_, _%_, _≤_, _<_}
 use native.Mathlib.Nat.{le-of-lt}
 use native.Mathlib.Numerals.{add-one}
 use native.Mathlib.Omega.{arith}
 use lib.ListN.{length, take, drop, set, getD}
-use lib.Seq.{sets, sets-eq, take-suc, drop-cons, append-snoc, set-at, take-at, drop-at, length-take-le, take-set-le, drop-set-lt}
+use lib.Seq.{sets, sets-eq, take-suc, drop-cons, append-snoc, set-at, take-at, drop-at, length-take-le, take-set-le, drop-set-lt, drop-drop}
 use Rattle.laws.specs.Bytes.{bytesOf}
 
 -- a byte of a number is stored, and the others are left to store
@@ -35,6 +35,11 @@ pub part-stored : (l : List ℕ) (at : ℕ) (xs : List ℕ) → at + length xs �
 part-stored l at xs h =
     let there : at ≤ length l = omega arith in
     rw (sets-eq xs l at h, append-assoc, drop-at (take at l) (xs ++ drop (at + length xs) l) at (length-take-le at l there)) (take-at xs _ (length xs) refl)
+
+-- lists that are the same from a place on are so from a later one on
+pub drop-later : {A : Type 0} (m n : ℕ) (l l′ : List A) → m ≤ n → drop m l ≡ drop m l′ → drop n l ≡ drop n l′
+drop-later m n l l′ h e =
+    let later : m + (n - m) ≡ n = omega arith in rw (← later, ← drop-drop (n - m) m l, ← drop-drop (n - m) m l′) (ap (drop (n - m)) e)
 
 -- what stands behind it is as it was
 pub drop-behind : (l : List ℕ) (at k : ℕ) (xs : List ℕ) → at + length xs ≤ k → drop k (sets l at xs) ≡ drop k l

@@ -3,7 +3,7 @@ use mathlib.Core.Path.{_≡_, refl, sym, ap, subst, _∙_}
 use mathlib.Core.Bool.{true}
 use mathlib.Core.List.{List, [], _∷_}
 use Prim.Native.Nat.{ℕ, zero, suc, _+_, _-_, _*_, _%_, _<_, _≤_, min}
-use native.Mathlib.Nat.{mod-lt, mod-eq-of-lt}
+use native.Mathlib.Nat.{mod-lt, mod-le, mod-eq-of-lt}
 use native.Mathlib.Omega.{arith}
 use lib.Dec.{ltb}
 use lib.ListN.{length, getD, take, drop, length-append, length-take, length-reverse}
@@ -16,22 +16,40 @@ use Rattle.laws.specs.Each.{Each}
 use Rattle.laws.proofs.Tests.{by-test, and-both}
 use Rattle.laws.proofs.Bytes.{length-bytesOf}
 use Rattle.laws.proofs.Runs.{length-joined}
-use Rattle.laws.proofs.Stores.{part-stored, drop-behind, part-before}
+use Rattle.laws.proofs.Stores.{part-stored, drop-later, drop-behind, part-before}
 use Rattle.laws.proofs.Cycles.{round, reversed}
 use Rattle.profile.specs.Records.{valueBytes, recordBytes}
-use Rattle.profile.specs.Room.{legalLength, asAtStart, roomFor, within, movedOn, written, Kept, kept, freshProfile}
+use Rattle.profile.specs.Room.{legalLength, asAtStart, roomFor, within, nextPlace, movedOn, written, Kept, kept, withRecord, freshProfile}
 use Rattle.profile.specs.Reading.{placeAt, recordAt}
-use Rattle.profile.specs.Laws.{profileAfter, MovesOn, putAll, lastOf, EightValues, HoldsLast, LastRecords}
+use Rattle.profile.specs.Laws.{profileAfter, MovesOn, putAll, lastOf, EightValues, RoomAlone, HoldsLast, LastRecords}
 use Rattle.profile.specs.declared.Profile.{Profile}
 use Rattle.profile.specs.declared.records.Record.{Record}
-use Rattle.profile.proofs.Places.{some-room, legal-is}
-use Rattle.profile.proofs.Puts.{put-is, written-long}
+use Rattle.profile.proofs.Places.{some-room, legal-is, start-is, next-fits}
+use Rattle.profile.proofs.Puts.{put-is, put-long, written-long}
 
 -- a record with eight values has 69 bytes
 pub record-long : (r : Record) → EightValues r → length (recordBytes r) ≡ 69
 unfolding recordBytes
 record-long r eight =
     rw (length-append, length-append, length-bytesOf, length-bytesOf, length-joined valueBytes 8 (λ v. length-bytesOf 8 (ofZ w64 v)) (r .values), eight)
+
+-- a record that is put leaves what stands past the room
+past-room : (k : Kept) (r : Record) → EightValues r →
+    let past = 69 * roomFor (length (k .buffer)) in drop past (withRecord k r .buffer) ≡ drop past (k .buffer)
+unfolding withRecord written
+past-room k r eight =
+    let p = k .profile in
+    let n = length (k .buffer) in
+    by-test (asAtStart p n)
+    (λ t. rw t (drop-behind (k .buffer) (69 * nextPlace p) (69 * roomFor n) (recordBytes r) (rw (record-long r eight) (omega (arith, start-is p n t, next-fits p n t)))))
+    (λ f. rw f)
+
+pub room-alone : RoomAlone
+room-alone k [] e = (refl, refl)
+room-alone k (r ∷ later) e =
+    let long = put-long k r in
+    let rest = room-alone (withRecord k r) later (e .1) in
+    ((rw long at (rest .0)) ∙ past-room k r (e .0), rest .1 ∙ long)
 
 -- the place of the j-th newest record
 abbrev back : ℕ → ℕ → ℕ → ℕ
@@ -97,7 +115,7 @@ record Ring (buffer : List ℕ) (records : List Record) (k : Kept) : Type 0 wher
   profile : k .profile ≡ profileAfter (length buffer) (length records)
   each : (none : Record) (j : ℕ) → j < min (length records) (roomFor (length buffer))
       → recordAt (k .buffer) (back (roomFor (length buffer)) (length records % roomFor (length buffer)) j) ≡ recordBytes (getD records j none)
-  rest : drop (69 * roomFor (length buffer)) (k .buffer) ≡ drop (69 * roomFor (length buffer)) buffer
+  rest : let held = min (length records) (roomFor (length buffer)) in drop (69 * held) (k .buffer) ≡ drop (69 * held) buffer
   same : length (k .buffer) ≡ length buffer
 
 module _ (buffer : List ℕ) (legal : legalLength (length buffer) ≡ true) where
@@ -144,6 +162,15 @@ module _ (buffer : List ℕ) (legal : legalLength (length buffer) ≡ true) wher
     next-is : suc (length records) % room ≡ following room next
     next-is = round (length records) room some
 
+    -- what stands behind the records, of which there may be one more
+    rest-more : let held = min (length (r ∷ records)) room in drop (69 * held) (written before r b) ≡ drop (69 * held) buffer
+    rest-more =
+        let held = min (length (r ∷ records)) room in
+        let few : next ≤ length records = mod-le (length records) room in
+        rw put-here
+        (drop-behind b (69 * next) (69 * held) (recordBytes r) (rw bytes (omega (arith, next-small, few)))
+        ∙ drop-later (69 * min (length records) room) (69 * held) b buffer (omega arith) (old .rest))
+
     each-more : (none : Record) (j : ℕ) → j < min (length (r ∷ records)) room
         → recordAt (written before r b) (back room (length (r ∷ records) % room) j) ≡ recordBytes (getD (r ∷ records) j none)
     each-more none zero h =
@@ -158,7 +185,7 @@ module _ (buffer : List ℕ) (legal : legalLength (length buffer) ≡ true) wher
         record {
           profile = moves-on (length buffer) (length records) (legal-is (length buffer) legal .0);
           each = each-more;
-          rest = rw put-here (drop-behind b (69 * next) (69 * room) (recordBytes r) (rw bytes (omega (arith, next-small))) ∙ old .rest);
+          rest = rest-more;
           same = written-long before r b ∙ old .same;
         }
 

@@ -1,6 +1,5 @@
 -- No second result, and no second buffer, fits the contract of a public function of the profile.
 use mathlib.Core.Path.{_≡_, refl, sym, ap, _∙_}
-use Prim.Native.Nat.{ℕ}
 use denote.Ref.{now}
 use lib.Dec.{eqb}
 use Rattle.laws.specs.Answers.{Answer, given, refused}

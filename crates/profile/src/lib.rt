@@ -1,6 +1,7 @@
 // The load profile: a record of each closed period in a lent buffer, the newest in the room of the oldest where the room is used up.
 mod records;
 
+pub use records::RECORD_LENGTH;
 pub use records::Record;
 pub use records::bits64;
 pub use records::choose;
@@ -13,8 +14,8 @@ ghost use Rattle.profile.specs.Room.{legalLength, asAtStart, roomOf, nex
 ghost use Rattle.profile.specs.Room.{within as Room·within};
 ghost use Rattle.profile.specs.Reading.{heldIn, oldestOf, placeAt, recordReplied, recordReply};
 
-// How many bytes a record has.
-pub const RECORD_LENGTH: usize = 69;
+// How many bytes may be lent at most.
+const LONGEST: usize = 65536;
 
 // Where the records stand in the lent buffer: its length at the start, the place of the next record, counted in records, and how many are held.
 pub struct Profile {
@@ -35,7 +36,7 @@ pub enum RecordAnswer {
 pub fn legal_length(length: usize) -> bool
     ensures { λ r. ⌜ r ≡ legalLength length ⌝ }
 {
-    (69 <= length) & (length <= 65536)
+    (RECORD_LENGTH <= length) & (length <= LONGEST)
 }
 
 // A place, from the first again past the last.

@@ -10,6 +10,9 @@ ghost use Rattle.laws.specs.Bytes.{bytesOf};
 ghost use Rattle.laws.specs.Runs.{joined};
 ghost use Rattle.profile.specs.Records.{slotsFit, valueAt, chosenValues, valueBytes, recordBytes};
 
+// How many bytes a record has.
+pub const RECORD_LENGTH: usize = 69;
+
 // What is kept of a closed period: its closing time, its state, and the values of the chosen slots.
 pub struct Record {
     pub stamp: u32,
@@ -95,7 +98,7 @@ pub(crate) fn copy_record(result: &mut [u8], buffer: &[u8], at: usize)
     requires { ⌜ (at + 69 ≤ length (now buffer)) × (69 ≤ length (now result)) ⌝ }
     ensures { λ _. ⌜ now (result .exit) ≡ take 69 (drop at (now (buffer .entry))) ++ drop 69 (now (result .entry)) ⌝ }
 {
-    for k in 0..69usize {
+    for k in 0..RECORD_LENGTH {
         result[k] = buffer[at + k];
     }
 }

@@ -1,6 +1,6 @@
 -- A call with one sample.
 use mathlib.Core.Path.{_≡_, refl}
-use mathlib.Core.List.{List, [], _∷_, _++_, append-nil}
+use mathlib.Core.List.{[], _∷_, _++_, append-nil}
 use Prim.Native.Nat.{ℕ}
 use Rattle.laws.specs.Answers.{Answer, given, refused, RunReply, replyTo}
 use Rattle.settings.specs.declared.Config.{Config}

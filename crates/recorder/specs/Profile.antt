@@ -6,7 +6,6 @@ use Rattle.laws.specs.If.{if_then_else_}
 use Rattle.laws.specs.Answers.{Answer, given, refused}
 use Rattle.profile.specs.Records.{chosenValues}
 use Rattle.profile.specs.Room.{asAtStart, kept, withRecords, movedBy}
-use Rattle.profile.specs.declared.Profile.{Profile}
 use Rattle.profile.specs.declared.records.Record.{Record}
 use Rattle.sampling.specs.declared.Period.{Period}
 use Rattle.sampling.specs.declared.State.{State}

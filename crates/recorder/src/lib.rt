@@ -35,7 +35,7 @@ ghost use Rattle.calendar.specs.Moments.{momentOf};
 ghost use Rattle.profile.specs.Room.{freshProfile};
 ghost use Rattle.profile.specs.Reading.{recordReplied, recordReply};
 ghost use Rattle.recorder.specs.Profile.{withBuffer};
-ghost use Rattle.recorder.specs.Calls.{freshState, freshStart, blankRecorder, startSaid, refusedStart, startDated, startFrom, startReply, sampledSaid, sampleLent, runSaid, samplesLent, clockSetSaid, setLent, meterReadSaid, readingReply, resetReply};
+ghost use Rattle.recorder.specs.Calls.{freshState, blankRecorder, startSaid, refusedStart, startDated, startFrom, startReply, sampledSaid, sampleLent, runSaid, samplesLent, clockSetSaid, setLent, meterReadSaid, readingReply, resetReply};
 ghost use Rattle.image.specs.Answers.{imageAnswer, imageConfig};
 
 // What else a start is given: the eight chosen slots of the load profile.

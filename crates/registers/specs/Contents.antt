@@ -3,8 +3,8 @@ use mathlib.Core.Bool.{Bool, false}
 use mathlib.Core.List.{List, _++_}
 use Prim.Native.Nat.{ℕ, _+_, _-_, _*_, _/_, _%_}
 use lib.Dec.{eqb}
-use lib.IntN.{ℤ, pos}
-use lib.ListN.{length, getD, replicate}
+use lib.IntN.{ℤ}
+use lib.ListN.{length, replicate}
 use mir.Syntax.{w32, w64}
 use mir.Val.{ofZ}
 use Rattle.laws.specs.If.{if_then_else_}

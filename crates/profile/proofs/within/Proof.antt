@@ -1,5 +1,4 @@
 -- `profile::within` meets its contract.
-use borrow.Author.Needs.{needs}
 use borrow.Author.Tests.{lt-ltb, le-ltb}
 use Rattle.profile.specs.Room.{within}
 use Rattle.profile.proofs.within.Statement.{statement}

@@ -1,5 +1,5 @@
 -- `profile::records::slots_fit` meets its contract. The loop's invariant: whether a slot before k is above 15.
-use mathlib.Core.Path.{_≡_, refl, ap, _∙_}
+use mathlib.Core.Path.{_≡_, refl, ap}
 use mathlib.Core.Bool.{not}
 use Prim.Native.Nat.{_-_, _≤_}
 use native.Mathlib.Omega.{arith}

@@ -22,7 +22,7 @@ pub record Accepted (c : Config) : Type 0 where
 abbrev pub LegalLength : ℕ → Type 0
 LegalLength n = (69 ≤ n) × (n ≤ 65_536)
 
--- and in each call after the start the same
+-- one that is lent after the start is within these limits and as long as it was then
 abbrev pub AsAtStart : Profile → ℕ → Type 0
 AsAtStart p n = LegalLength n × (n ≡ p .length)
 

@@ -94,25 +94,26 @@ start-is-fresh setup lent b bytes time e =
     go (given u) i e = (image-accepted b bytes i, dated (momentOf time) e)
     go (refused n offset) i e = let z : _≡_ {A = ℕ} 0 1 = cc in absurd (omega arith)
 
+-- a start that is refused with a number and an offset
+module _ (setup : Setup) (lent : ℕ) (b : List ℕ) (time n offset : ℕ) where
+  not-dated : (m : Answer Moment) → startDated m setup lent (imageConfig b) time .answer ≡ refused n offset → startDated m setup lent (imageConfig b) time .recorder ≡ blankRecorder
+  not-dated (given m) e = let z : _≡_ {A = ℕ} 0 1 = cc in absurd (omega arith)
+  not-dated (refused k o) e = refl
+
+  not-accepted : (a : Answer (Unit {0})) → startFrom a setup lent (imageConfig b) time .answer ≡ refused n offset → startFrom a setup lent (imageConfig b) time .recorder ≡ blankRecorder
+  not-accepted (given u) e = not-dated (momentOf time) e
+  not-accepted (refused k o) e = refl
+
+  refused-start : startReply setup lent b time .answer ≡ refused n offset → startReply setup lent b time .recorder ≡ blankRecorder
+  unfolding startReply
+  refused-start e =
+      by-test (legalLength lent)
+      (λ legal.
+      by-test (slotsFit (setup .slots))
+      (λ fit. rw (legal, fit) (not-accepted (imageAnswer b) (rw (legal, fit) at e)))
+      (λ f. rw (legal, f)))
+      (λ f. rw f)
+
 pub blank-refuses : BlankRefuses
-unfolding startReply blankRecorder
+unfolding blankRecorder
 blank-refuses = record { refused-start = refused-start; no-length = λ n h. let (legal, none) = h in let low = legal .0 in omega arith }
-  where
-    dated : (setup : Setup) (lent : ℕ) (b : List ℕ) (time n offset : ℕ) (m : Answer Moment) → startDated m setup lent (imageConfig b) time .answer ≡ refused n offset
-        → startDated m setup lent (imageConfig b) time .recorder ≡ blankRecorder
-    dated setup lent b time n offset (given m) e = let z : _≡_ {A = ℕ} 0 1 = cc in absurd (omega arith)
-    dated setup lent b time n offset (refused k o) e = refl
-
-    go : (setup : Setup) (lent : ℕ) (b : List ℕ) (time n offset : ℕ) (a : Answer (Unit {0})) → startFrom a setup lent (imageConfig b) time .answer ≡ refused n offset
-        → startFrom a setup lent (imageConfig b) time .recorder ≡ blankRecorder
-    go setup lent b time n offset (given u) e = dated setup lent b time n offset (momentOf time) e
-    go setup lent b time n offset (refused k o) e = refl
-
-    refused-start : (setup : Setup) (lent : ℕ) (b : List ℕ) (time n offset : ℕ) → startReply setup lent b time .answer ≡ refused n offset → startReply setup lent b time .recorder ≡ blankRecorder
-    refused-start setup lent b time n offset e =
-        by-test (legalLength lent)
-        (λ legal.
-        by-test (slotsFit (setup .slots))
-        (λ fit. rw (legal, fit) (go setup lent b time n offset (imageAnswer b) (rw (legal, fit) at e)))
-        (λ f. rw (legal, f)))
-        (λ f. rw f)

@@ -690,21 +690,46 @@ static void reading_call(void) {
   if (percent(30)) register_of(SERIAL, meter);
 }
 
-/* A reading, and the clock set to an edge of its age. */
-static void age_call(void) {
-  unsigned meter = below(METERS);
+/* The clock set, and readings then, that of this meter the last. */
+static uint32_t heard_at(unsigned meter) {
   uint32_t time = percent(70) ? clock_now : some_time();
   set(time);
   for (unsigned i = below(percent(20) ? 40 : 4); i > 0; i--) reading_of(below(METERS));
   reading_of(meter);
-  set(time + limit_of(meter) + below(3) - 1);
+  return time;
+}
+
+static void show_meter(unsigned meter) {
   register_of(SERIAL, meter);
-  if (percent(30)) {
-    samples(quiet(), 100);
-    register_of(SERIAL, meter);
-  }
   if (percent(40)) line("fleet");
   else register_of(FLEET, 0);
+}
+
+/* A reading, and the clock set to an edge of its age. */
+static void age_call(void) {
+  unsigned meter = below(METERS);
+  set(heard_at(meter) + limit_of(meter) + below(3) - 1);
+  if (percent(30)) {
+    register_of(SERIAL, meter);
+    samples(quiet(), 100);
+  }
+  show_meter(meter);
+}
+
+/* A reading, and the clock set back before its stamp; then a reading at the new time, the clock forth again, or samples to the stamp or nearly. */
+static void back_call(void) {
+  static const uint32_t far[] = {1, 1, 2, 3600, 3600, DAY};
+  unsigned meter = below(METERS);
+  uint32_t time = heard_at(meter), back = percent(60) ? PICK(far) : limit_of(meter) + below(3) - 1;
+  if (back > time) back = time;
+  set(time - back);
+  show_meter(meter);
+  switch (below(3)) {
+  case 0: reading_of(meter); break;
+  case 1: set(time + below(3) - 1); break;
+  default: if (back > 0) samples(quiet(), (back < 4 ? back : 3) * 100 - below(2)); break;
+  }
+  show_meter(meter);
 }
 
 /* The end of the clock. It is surely near: else the greatest COUNT would take minutes. */
@@ -832,8 +857,9 @@ static void some_call(void) {
   else if (n < 500) set_call();
   else if (n < 600) reading_call();
   else if (n < 630) age_call();
-  else if (n < 635) end_call();
-  else if (n < 655) { line("reset"); show(BILL, below(4)); }
+  else if (n < 650) back_call();
+  else if (n < 655) end_call();
+  else if (n < 675) { line("reset"); show(BILL, below(4)); }
   else if (n < 850) register_call();
   else if (n < 875) record_call();
   else if (n < 885) lent_calls();

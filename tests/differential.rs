@@ -215,7 +215,7 @@ const BATCH: usize = 4_096;
 const SHOWN: u64 = 20;
 
 /// All that can be answered, in the order of the report.
-const CASES: [&str; 12] = [
+const CASES: [&str; 13] = [
     "image accepted",
     "image refused 1",
     "image refused 2",
@@ -224,6 +224,7 @@ const CASES: [&str; 12] = [
     "second dated",
     "meter awake",
     "meter stale",
+    "meter ahead of the clock",
     "meter invalid",
     "meter never",
     "meter refused 8",
@@ -234,9 +235,11 @@ fn case(question: &Question, answer: u64) -> &'static str {
     let place = match (question, answer) {
         (Question::Image(_), _) => answer >> 16,
         (Question::Calendar(_), _) => 5,
-        (Question::Age(_), 8) => 10,
-        (Question::Age(_), 10) => 11,
-        (Question::Age(_), _) => 6 + answer,
+        (Question::Age(_), 0) => 6,
+        (Question::Age([_, _, stamp, _, clock]), 1) => 7 + u64::from(stamp > clock),
+        (Question::Age(_), 8) => 11,
+        (Question::Age(_), 10) => 12,
+        (Question::Age(_), _) => 7 + answer,
     };
     CASES[place as usize]
 }
@@ -324,10 +327,10 @@ const READ: [u32; 6] = [0, 1, 2, 256, 0x8000_0000, u32::MAX];
 const STAMPS: [u32; 7] = [0, 1, 1_000, 0x7fff_ffff, 0x8000_0000, u32::MAX - 900, u32::MAX];
 const STATUS: [u32; 13] = [0, 1, 2, 3, 4, 5, 6, 7, 8, 9, 255, 256, u32::MAX];
 
-/// A clock at the stamp, at the limit, and one beside each; past 2^32 it begins anew.
-fn clocks(limit: u32, stamp: u32) -> [u32; 8] {
-    let old = stamp.wrapping_add(limit);
-    [stamp.wrapping_sub(1), stamp, stamp.wrapping_add(1), old.wrapping_sub(1), old, old.wrapping_add(1), 0, u32::MAX]
+/// A clock at the stamp, the limit before it and past it, and one beside each; past 2^32 it begins anew.
+fn clocks(limit: u32, stamp: u32) -> Vec<u32> {
+    let edges = [stamp.wrapping_sub(limit), stamp, stamp.wrapping_add(limit)];
+    edges.iter().flat_map(|edge| [edge.wrapping_sub(1), *edge, edge.wrapping_add(1)]).chain([0, u32::MAX]).collect()
 }
 
 fn ages(compared: &mut Compared, random: &mut Random) {

@@ -444,10 +444,10 @@ void peer_reset(struct recorder *r) {
 
 /* ---- Registers. */
 
-/* "Stale if the clock is past its stamp by more than its limit (a stamp ahead of the clock is not stale); else invalid if its IV is set; else awake." */
+/* "Stale if the clock is past its stamp by more than its limit"; CR 2: "A stamp ahead of the clock shall be stale"; "else invalid if its IV is set; else awake." */
 static enum age age(uint32_t limit, uint32_t read, uint32_t stamp, uint32_t status, uint32_t clock) {
     if (read == 0) return NEVER;
-    if ((uint64_t)stamp + limit < clock) return STALE;
+    if (stamp > clock || (uint64_t)stamp + limit < clock) return STALE;
     return (status & 1) != 0 ? INVALID : AWAKE;
 }
 

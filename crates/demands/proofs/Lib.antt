@@ -16,7 +16,9 @@ pub mod Table
 pub mod Shown
 pub mod Demand2
 pub mod Profile
+pub mod ClockBack
 pub mod Example
 pub mod ProfileCases
+pub mod ClockBackCases
 pub mod Full
 pub mod Tightness

@@ -1,6 +1,6 @@
 -- What the registers show: classes, fleet and bytes of the state that the account spells out.
 use mathlib.Core.Path.{_≡_, refl, sym, ap, ap₂, _∙_}
-use mathlib.Core.Bool.{Bool, true, false, true≢false, not, _&&_, cond}
+use mathlib.Core.Bool.{Bool, true, false, true≢false, not, _&&_, _||_, cond}
 use mathlib.Core.List.{List, [], _∷_, _++_}
 use Prim.Native.Nat.{ℕ, zero, suc, _+_, _%_, _<_}
 use native.Mathlib.Nat.{le-refl, not-suc-le-zero}
@@ -37,9 +37,9 @@ use Rattle.demands.proofs.Levels.{recorder-is}
 
 -- the numbers of the classes are the conditions spelled out: not fitted, read, late, marked
 record Classes (none read late marked : Bool) (class : ℕ) : Type 0 where
-  awake : eqb class 0 ≡ ((not none && (read && not late)) && not marked)
+  awake : eqb class 0 ≡ ((not none && (read && not (not none && (read && late)))) && not marked)
   stale : eqb class 1 ≡ (not none && (read && late))
-  invalid : eqb class 2 ≡ ((not none && (read && not late)) && marked)
+  invalid : eqb class 2 ≡ ((not none && (read && not (not none && (read && late)))) && marked)
   never : eqb class 3 ≡ (not none && not read)
   fitted : ltb class 4 ≡ not none
 
@@ -50,9 +50,13 @@ four false true true marked = record { awake = refl; stale = refl; invalid = ref
 four false true false true = record { awake = refl; stale = refl; invalid = refl; never = refl; fitted = refl }
 four false true false false = record { awake = refl; stale = refl; invalid = refl; never = refl; fitted = refl }
 
-classes : (limit : ℕ) (m : Meter) (clock : ℕ) → Classes (eqb limit 0) (m .read) (ltb (m .stamp + limit) clock) (eqb (m .status % 2) 1) (meterClass limit m clock)
+-- a stamp is ahead of the clock, or the clock past it by more than the limit
+abbrev late : ℕ → ℕ → ℕ → Bool
+late limit stamp clock = ltb clock stamp || ltb (stamp + limit) clock
+
+classes : (limit : ℕ) (m : Meter) (clock : ℕ) → Classes (eqb limit 0) (m .read) (late limit (m .stamp) clock) (eqb (m .status % 2) 1) (meterClass limit m clock)
 unfolding meterClass classOf
-classes limit m clock = four (eqb limit 0) (m .read) (ltb (m .stamp + limit) clock) (eqb (m .status % 2) 1)
+classes limit m clock = four (eqb limit 0) (m .read) (late limit (m .stamp) clock) (eqb (m .status % 2) 1)
 
 pub invalid-mark : InvalidMark
 unfolding classAt
@@ -98,7 +102,7 @@ module _ (setup : Setup) (profile : Profile) (c : Config) (a : Account) where
   listed i l = table-at 32 (classAt (c .limits) (stateIn c a .meters) (stateIn c a .clock)) i 0 l ∙ class-is i l
 
   -- the conditions on meter i
-  conditions : (i : ℕ) → Classes (eqb (limit i) 0) (last i .read) (ltb (last i .stamp + limit i) (a .time .second)) (eqb (last i .status % 2) 1) (meterClass (limit i) (meterIn (last i)) (a .time .second))
+  conditions : (i : ℕ) → Classes (eqb (limit i) 0) (last i .read) (late (limit i) (last i .stamp) (a .time .second)) (eqb (last i .status % 2) 1) (meterClass (limit i) (meterIn (last i)) (a .time .second))
   conditions i = classes (limit i) (meterIn (last i)) (a .time .second)
 
   awake-is : (i : ℕ) → i < 32 → hasClass (classesOf spelled) 0 i ≡ awakeIn c a i

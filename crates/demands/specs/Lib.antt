@@ -8,7 +8,9 @@ pub mod Demand1
 pub mod Demand2
 pub mod Demand3
 pub mod Profile
+pub mod ClockBack
 pub mod Table
 pub mod Example
 pub mod ProfileCases
+pub mod ClockBackCases
 pub mod Tightness

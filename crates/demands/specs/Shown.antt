@@ -1,5 +1,5 @@
 -- What the registers show after a history: the age classes spelled out, and the bytes of the nine groups of document 01's table in the account's words.
-use mathlib.Core.Bool.{Bool, not, _&&_, cond}
+use mathlib.Core.Bool.{Bool, not, _&&_, _||_, cond}
 use mathlib.Core.List.{List, _++_}
 use Prim.Native.Nat.{ℕ, _+_, _*_, _/_, _%_}
 use lib.Dec.{ltb, eqb}
@@ -28,13 +28,13 @@ use Rattle.demands.specs.State.{lineIn, billIn, lastPeriod}
 abbrev pub isNever : ℕ → Bool → Bool
 isNever limit read = not (eqb limit 0) && not read
 
--- "stale if the clock is past its stamp by more than its limit"
+-- "stale if the clock is past its stamp by more than its limit"; CR 2: "A stamp ahead of the clock shall be stale"
 abbrev pub isStale : ℕ → Bool → ℕ → ℕ → Bool
-isStale limit read stamp clock = not (eqb limit 0) && (read && ltb (stamp + limit) clock)
+isStale limit read stamp clock = not (eqb limit 0) && (read && (ltb clock stamp || ltb (stamp + limit) clock))
 
 -- a fitted meter that was read and is not stale
 abbrev pub isRecent : ℕ → Bool → ℕ → ℕ → Bool
-isRecent limit read stamp clock = not (eqb limit 0) && (read && not (ltb (stamp + limit) clock))
+isRecent limit read stamp clock = not (eqb limit 0) && (read && not (isStale limit read stamp clock))
 
 -- "else invalid if its IV is set": IV is the lowest bit of STATUS
 abbrev pub isInvalid : ℕ → Bool → ℕ → ℕ → ℕ → Bool

@@ -1,12 +1,13 @@
 -- The numbers that C gets: nothing is lost in them.
 use mathlib.Core.Path.{_≡_, sym}
-use mathlib.Core.Bool.{Bool, not}
-use Prim.Native.Nat.{ℕ, _+_, _%_, _<_}
+use mathlib.Core.Bool.{Bool}
+use Prim.Native.Nat.{ℕ, _<_}
 use native.Mathlib.Omega.{arith}
 use lib.Dec.{ltb, eqb}
 use Rattle.laws.proofs.If.{if-cases}
 use Rattle.laws.specs.Answers.{Answer, given}
 use Rattle.recorder.specs.Meters.{classOf, ageOf}
+use Rattle.recorder.proofs.Ages.{class-cases}
 use Rattle.calendar.proofs.Moments.{found-is-moment}
 use Rattle.image.proofs.Refusals.{refusal-within}
 use Rattle.host.specs.Laws.{ComesApart, MomentsAreSome, ClassesBelow}
@@ -19,13 +20,8 @@ moments-are-some t m e = let first = found-is-moment t m (sym e) .date .first-ye
 
 -- the classes are 0 to 3
 class-below : (limit : ℕ) (read : Bool) (stamp status clock : ℕ) → classOf limit read stamp status clock < 4
-unfolding classOf
 class-below limit read stamp status clock =
-    let P : ℕ → Type 0 = λ k. k < 4 in
-    if-cases P (not read) (λ a. omega arith)
-    (λ a.
-    if-cases P (ltb (stamp + limit) clock) (λ b. omega arith)
-    (λ b. if-cases P (eqb (status % 2) 1) (λ d. omega arith) (λ d. omega arith)))
+    class-cases (λ k. k < 4) limit read stamp status clock (omega arith) (omega arith) (λ d. omega arith) (λ d. omega arith)
 
 pub classes-below : ClassesBelow
 unfolding ageOf

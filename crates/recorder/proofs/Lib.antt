@@ -6,3 +6,4 @@ pub mod Unique
 pub mod Sound
 pub mod Bounded
 pub mod Cases
+pub mod Ages

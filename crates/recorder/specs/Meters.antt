@@ -1,5 +1,5 @@
--- "A fitted meter is never before its first reading; stale if the clock is past its stamp by more than its limit (a stamp ahead of the clock is not stale); else invalid if its IV is set;
--- else awake." And: "The age class .. refuses limit 0 with 8, then STATUS above 7 with 10."
+-- "A fitted meter is never before its first reading; stale if the clock is past its stamp by more than its limit; else invalid if its IV is set; else awake." CR 2 in place of document 01's words
+-- in brackets: "A stamp ahead of the clock shall be stale." And: "The age class .. refuses limit 0 with 8, then STATUS above 7 with 10."
 use mathlib.Core.Bool.{Bool, true, not, _||_}
 use mathlib.Core.List.{List}
 use Prim.Native.Nat.{ℕ, _+_, _%_}
@@ -27,7 +27,7 @@ ageNumber Never = 3
 unfoldable pub classOf : ℕ → Bool → ℕ → ℕ → ℕ → ℕ
 classOf limit read stamp status clock =
     if not read then 3
-    else if ltb (stamp + limit) clock then 1
+    else if ltb clock stamp || ltb (stamp + limit) clock then 1
     else if eqb (status % 2) 1 then 2
     else 0
 

@@ -16,14 +16,17 @@ pub enum AgeAnswer {
     BadStatus,
 }
 
-// Never before the first reading; stale if the clock is past the stamp by more than the limit; else invalid if IV is set; else awake.
+// Never before the first reading; stale if the stamp is ahead of the clock, or the clock past it by more than the limit; else invalid if IV is set; else awake.
 pub fn age_class(limit: u32, read: bool, stamp: u32, status: u32, clock: u32) -> Age
     ensures { λ r. ⌜ ageNumber r ≡ classOf limit read stamp status clock ⌝ }
 {
     if !read {
         return Age::Never;
     }
-    if (stamp as u64) + (limit as u64) < (clock as u64) {
+    if clock < stamp {
+        return Age::Stale;
+    }
+    if clock - stamp > limit {
         return Age::Stale;
     }
     if status % 2 == 1 {

@@ -2,7 +2,7 @@
 use mathlib.Core.Path.{_≡_, refl, ap, _∙_}
 use mathlib.Core.Bool.{Bool, true, false, not, cond}
 use mathlib.Core.List.{List}
-use Prim.Native.Nat.{ℕ, zero, suc, _+_, _*_, _%_, _^_, _≤_, zero-le}
+use Prim.Native.Nat.{ℕ, zero, suc, _+_, _*_, _^_, _≤_, zero-le}
 use native.Mathlib.Omega.{arith}
 use borrow.Author.Tests.{ltb-true, ltb-false, ne-eqb}
 use lib.Dec.{eqb, ltb}
@@ -12,7 +12,6 @@ use lib.Signed.{natAbs-le}
 use mir.Syntax.{w32, w64}
 use mir.Val.{SFits}
 use mir.Facts.{toZ-ofZ}
-use Rattle.laws.proofs.If.{if-cases}
 use Rattle.laws.proofs.Tests.{by-test}
 use Rattle.laws.proofs.Keys.{in-range}
 use Rattle.laws.specs.Masks.{bit}
@@ -22,7 +21,7 @@ use Rattle.laws.proofs.Total.{total-cong, total-plus}
 use Rattle.laws.proofs.Counts.{ones-mask}
 use Rattle.laws.specs.SignedTotal.{totalℤ}
 use Rattle.laws.proofs.SignedTotal.{abs-add, abs-fits}
-use Rattle.recorder.specs.Meters.{classOf}
+use Rattle.recorder.proofs.Ages.{class-cases}
 use Rattle.sampling.specs.declared.Meter.{Meter}
 use Rattle.registers.specs.Fleet.{meterAt, meterClass, classAt, hasClass, hasAny, awakeValue, awakeSum, classesOf, fleetOf}
 use Rattle.registers.specs.Laws.{OnesAreCounts, FittedCounted, CountsAddUp, SumExact}
@@ -32,15 +31,10 @@ ones-are-counts r class = ones-mask 32 (hasClass (classesOf r) class)
 
 -- a class is one of four exactly if the meter has a limit
 fitted-is : (limit : ℕ) (m : Meter) (clock : ℕ) → ltb (meterClass limit m clock) 4 ≡ not (eqb limit 0)
-unfolding meterClass classOf
+unfolding meterClass
 fitted-is limit m clock =
     by-test (eqb limit 0) (λ a. rw a)
-    (λ a.
-    rw a
-    (if-cases (λ k. ltb k 4 ≡ true) (not (m .read)) (λ b. refl)
-    (λ b.
-    if-cases (λ k. ltb k 4 ≡ true) (ltb (m .stamp + limit) clock) (λ c. refl)
-    (λ c. if-cases (λ k. ltb k 4 ≡ true) (eqb (m .status % 2) 1) (λ d. refl) (λ d. refl)))))
+    (λ a. rw a (class-cases (λ k. ltb k 4 ≡ true) limit (m .read) (m .stamp) (m .status) clock refl refl (λ d. refl) (λ d. refl)))
 
 pub fitted-counted : FittedCounted
 unfolding fleetOf hasAny classAt

@@ -4,15 +4,15 @@ use mathlib.Core.Bool.{true, true≢false, not}
 use mathlib.Core.List.{List, _++_}
 use Prim.Native.Nat.{ℕ, _+_, _%_, _≤_}
 use native.Mathlib.Omega.{arith}
-use borrow.Author.Tests.{not-false, leb-true, ne-eqb, eqb-false}
-use lib.Dec.{eqb, leb, ltb}
+use borrow.Author.Tests.{not-false, leb-true, ne-eqb}
+use lib.Dec.{eqb, leb}
 use lib.IntN.{ℤ}
 use lib.ListN.{length, getD, drop}
 use Rattle.laws.proofs.If.{if-cases}
 use Rattle.laws.proofs.Tests.{by-test}
 use Rattle.laws.specs.Answers.{Answer, given, refused}
 use Rattle.laws.specs.Bytes.{bytesOf}
-use Rattle.recorder.specs.Meters.{classOf}
+use Rattle.recorder.proofs.Ages.{class-cases}
 use Rattle.recorder.specs.declared.Recorder.{Recorder}
 use Rattle.counting.specs.declared.Bill.{Bill}
 use Rattle.sampling.specs.declared.Meter.{Meter}
@@ -111,15 +111,12 @@ marked-by-class r meter buffer n e h =
 
 -- an awake meter has no IV
 awake-even : (limit : ℕ) (m : Meter) (clock : ℕ) → meterClass limit m clock ≡ 0 → m .status % 2 ≡ 0
-unfolding meterClass classOf
+unfolding meterClass
 awake-even limit m clock =
     let P : ℕ → Type 0 = λ k. k ≡ 0 → m .status % 2 ≡ 0 in
     if-cases P (eqb limit 0) (λ a e. absurd (omega arith))
     (λ a.
-    if-cases P (not (m .read)) (λ b e. absurd (omega arith))
-    (λ b.
-    if-cases P (ltb (m .stamp + limit) clock) (λ c e. absurd (omega arith))
-    (λ c. if-cases P (eqb (m .status % 2) 1) (λ d e. absurd (omega arith)) (λ d e. omega (arith, eqb-false (m .status % 2) 1 d)))))
+    class-cases P limit (m .read) (m .stamp) (m .status) clock (λ e. absurd (omega arith)) (λ e. absurd (omega arith)) (λ d e. absurd (omega arith)) (λ d e. omega (arith, d)))
 
 pub unmarked-by-class : UnmarkedByClass
 unfolding lookUp groups bytesOf statusShown serialBytes meterBytes classAt

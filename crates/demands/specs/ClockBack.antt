@@ -1,0 +1,107 @@
+-- CR 2, quiet meters after the clock went back: "A stamp ahead of the clock shall be stale. Groups 82 and 204 follow; a meter read again at the new time is stale no longer." The classes are spelled out in
+-- Shown.antt, and demand 2 speaks of all of them; here each of these sentences stands by itself.
+use mathlib.Core.Path.{_≡_}
+use mathlib.Core.Bool.{Bool, true, false, not, _&&_}
+use mathlib.Core.List.{List, _∷_, _++_}
+use Prim.Native.Nat.{ℕ, _+_, _*_, _%_, _<_, _≤_}
+use lib.Dec.{ltb, eqb}
+use lib.IntN.{ℤ}
+use lib.ListN.{length, getD, drop}
+use mir.Syntax.{w32}
+use mir.Val.{ofZ}
+use Rattle.laws.specs.Answers.{given}
+use Rattle.laws.specs.Bytes.{bytesOf}
+use Rattle.laws.specs.Counts.{countOf}
+use Rattle.settings.specs.declared.Config.{Config}
+use Rattle.recorder.specs.History.{Call, set, reading}
+use Rattle.recorder.specs.Meters.{classOf, ageOf}
+use Rattle.recorder.specs.declared.Recorder.{Recorder}
+use Rattle.recorder.specs.declared.Setup.{Setup}
+use Rattle.registers.specs.Fleet.{meterAt, fleetOf}
+use Rattle.registers.specs.Registers.{registerReply}
+use Rattle.demands.specs.Account.{Account, lastReading, answerOf, accountOf}
+use Rattle.demands.specs.Starts.{Accepted}
+use Rattle.demands.specs.Shown.{awakeIn}
+use Rattle.demands.specs.Demand2.{reached, withSamples}
+
+-- Every meter and every recorder
+
+-- "A stamp ahead of the clock shall be stale": the class of a meter that was read, whatever its limit and STATUS; and so a host is answered about one that is fitted, with a STATUS of 0 to 7. 1 is stale
+pub record AheadIsStale : Type 0 where
+  pub class : (limit stamp status clock : ℕ) → clock < stamp → classOf limit true stamp status clock ≡ 1
+  pub answer : (limit stamp status clock : ℕ) → 0 < limit → status ≤ 7 → clock < stamp → ageOf limit true stamp status clock ≡ given 1
+
+-- "Groups 82 .. follow": a serial value whose stamp is ahead of the clock carries IV, the lowest bit of STATUS, byte 8 of a register of group 82, for every request
+abbrev pub AheadIsMarked : Type 0
+AheadIsMarked =
+    (r : Recorder) (meter : ℕ) (buffer : List ℕ) (n : ℕ) → registerReply r 82 meter buffer .answer ≡ given n
+    → r .state .clock < meterAt (r .state .meters) meter .stamp → getD (registerReply r 82 meter buffer .buffer) 8 0 % 2 ≡ 1
+
+-- Histories
+
+-- meter i is fitted and was read
+abbrev pub readIn : Config → Account → ℕ → Bool
+readIn c a i = not (eqb (getD (c .limits) i 0) 0) && lastReading (a .journal) i .read
+
+-- and its stamp is ahead of the clock
+unfoldable pub aheadIn : Config → Account → ℕ → Bool
+aheadIn c a i = readIn c a i && ltb (a .time .second) (lastReading (a .journal) i .stamp)
+
+-- and "the clock is past its stamp by more than its limit"
+unfoldable pub pastIn : Config → Account → ℕ → Bool
+pastIn c a i = readIn c a i && ltb (lastReading (a .journal) i .stamp + getD (c .limits) i 0) (a .time .second)
+
+-- no meter that is ahead is awake: it is none of the awake that group 204 counts and adds up
+abbrev pub AheadNotAwake : Type 0
+AheadNotAwake = (c : Config) (a : Account) (i : ℕ) → aheadIn c a i ≡ true → awakeIn c a i ≡ false
+
+-- "We set the clock back": a meter that was read is ahead after an accepted clock set to a time before its stamp
+abbrev pub SetBackIsAhead : Type 0
+SetBackIsAhead =
+    (c : Config) (time : ℕ) (calls : List Call) (seconds i : ℕ) →
+    let a = accountOf c time calls in
+    answerOf c a (set seconds) ≡ 0 → readIn c a i ≡ true → seconds < lastReading (a .journal) i .stamp → aheadIn c (accountOf c time (set seconds ∷ calls)) i ≡ true
+
+-- "for that hour": and it is ahead, whatever samples come, 100 for each second, until there are enough to bring the clock to its stamp
+abbrev pub StaysAhead : Type 0
+StaysAhead =
+    (c : Config) (time : ℕ) (calls : List Call) (run : List ℕ) (i : ℕ) →
+    let a = accountOf c time calls in
+    readIn c a i ≡ true → 100 * a .time .second + a .time .samples + length run < 100 * lastReading (a .journal) i .stamp → aheadIn c (accountOf c time (withSamples run calls)) i ≡ true
+
+-- A start with any chosen slots and a buffer of any length
+module _ (setup : Setup) (lent : ℕ) where
+  -- "Groups .. 204 follow": the stale meters are those that are ahead and those that the clock is past, each counted once
+  abbrev pub AheadIsCounted : Type 0
+  AheadIsCounted =
+      (c : Config) → Accepted c → (time : ℕ) (calls : List Call) →
+      let a = accountOf c time calls in
+      fleetOf (reached setup lent c time calls) .stale ≡ countOf 32 (aheadIn c a) + countOf 32 (pastIn c a)
+
+  -- what is so of a meter once a reading of it was accepted
+  pub record StaleNoLonger (c : Config) (time : ℕ) (calls : List Call) (meter : ℕ) (value : ℤ) (status seq : ℕ) : Type 0 where
+    -- it is none of the stale, and awake unless the reading itself has IV
+    pub not-ahead : aheadIn c (accountOf c time (reading meter value status seq ∷ calls)) meter ≡ false
+    pub not-past : pastIn c (accountOf c time (reading meter value status seq ∷ calls)) meter ≡ false
+    pub awake : awakeIn c (accountOf c time (reading meter value status seq ∷ calls)) meter ≡ not (eqb (status % 2) 1)
+    -- its register shows the clock and the reading as it was sent
+    pub register : (buffer : List ℕ) (n : ℕ) →
+        let now = accountOf c time calls .time .second in
+        let reply = registerReply (reached setup lent c time (reading meter value status seq ∷ calls)) 82 meter buffer in
+        reply .answer ≡ given n → reply .buffer ≡ (bytesOf 4 now ++ (bytesOf 4 (ofZ w32 value) ++ (bytesOf 1 status ++ bytesOf 1 seq))) ++ drop n buffer
+
+  -- "a meter read again at the new time is stale no longer", after any history
+  abbrev pub ReadAgain : Type 0
+  ReadAgain =
+      (c : Config) → Accepted c → (time : ℕ) (calls : List Call) (meter : ℕ) (value : ℤ) (status seq : ℕ)
+      → answerOf c (accountOf c time calls) (reading meter value status seq) ≡ 0 → StaleNoLonger c time calls meter value status seq
+
+  -- CR 2, in one
+  pub record ClockBack : Type 0 where
+    pub stale : AheadIsStale
+    pub marked : AheadIsMarked
+    pub not-awake : AheadNotAwake
+    pub set-back : SetBackIsAhead
+    pub stays : StaysAhead
+    pub counted : AheadIsCounted
+    pub read-again : ReadAgain

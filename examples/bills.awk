@@ -12,15 +12,16 @@ FILENAME == ARGV[2] {
 }
 {
   split(call[++answers], word, " ")
-  if (word[1] == "date") moment = $0
-  if (word[1] == "fleet") fleet = $0
+  if (word[1] == "date") { day = $1 " " $2; time = $3 }
+  if (word[1] == "fleet") fleet[++fleets] = time "  " $0
   if (word[1] == "register" && word[2] == 202) amount[bill_maker[word[3]], bill_column[word[3]]] = $0 ~ /^refused/ ? $0 : number($0, 1, 4)
 }
 END {
   column[++columns] = "all"
-  print "The hall on " moment
+  print "The hall on " day
   print ""
-  print "Meters: " fleet
+  print "Meters"
+  for (k = 1; k <= fleets; k++) print fleet[k]
   print ""
   printf "%-12s", "Open bills"
   for (k = 1; k <= columns; k++) printf "%10s", column[k] == "all" ? "All" : column[k]

@@ -36,7 +36,7 @@ enum {
 /* Age classes. */
 enum {
     RECORDER_AWAKE = 0,   /* the reading is fresh and valid: the only class whose value may be shown as it is */
-    RECORDER_STALE = 1,   /* the clock is past the stamp by more than the limit */
+    RECORDER_STALE = 1,   /* the stamp is ahead of the clock, or the clock is past it by more than the limit */
     RECORDER_INVALID = 2, /* not stale, but the meter itself marked the reading as invalid */
     RECORDER_NEVER = 3    /* there was no reading yet */
 };

@@ -1,8 +1,8 @@
 /*
  * The three functions as the dashboard uses them, over include/recorder.h: `host_test IMAGE`, where IMAGE is a good image of 1,126 bytes.
  *
- * What is expected was worked out by hand from document 01: its table, its source documents' dates, and the offsets of its entries. Each failure is printed
- * with its input; the last line is 'N passed, M failed'.
+ * What is expected was worked out by hand from document 01, its table, its source documents' dates and the offsets of its entries, and from CR 2. Each failure is
+ * printed with its input; the last line is 'N passed, M failed'.
  */
 #include "recorder.h"
 

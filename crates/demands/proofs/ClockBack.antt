@@ -2,9 +2,9 @@
 use mathlib.Core.Path.{_≡_, refl, ap, _∙_}
 use mathlib.Core.Bool.{Bool, true, false, not, _&&_, _||_}
 use mathlib.Core.List.{List, [], _∷_, _++_}
-use Prim.Native.Nat.{ℕ, _+_, _*_, _/_, _%_, _<_, _≤_}
+use Prim.Native.Nat.{ℕ, _+_, _*_, _/_, _%_, _≤_}
 use native.Mathlib.Omega.{arith}
-use borrow.Author.Tests.{lt-ltb, le-ltb, eq-eqb, ne-eqb, ltb-true, ltb-false, eqb-true}
+use borrow.Author.Tests.{lt-ltb, le-ltb, eq-eqb, ne-eqb, ltb-true, eqb-true}
 use lib.Dec.{ltb, eqb}
 use lib.IntN.{ℤ}
 use lib.ListN.{length, getD, drop}
@@ -107,18 +107,12 @@ either true true true past h = rw (h refl)
 either true true false true h = refl
 either true true false false h = refl
 
--- a reading that is taken is one of a meter that is there and fitted
-record Taken (c : Config) (meter : ℕ) : Type 0 where
-  there : meter < 32
-  fitted : eqb (getD (c .limits) meter 0) 0 ≡ false
-
-taken-is : (c : Config) (meter status seq : ℕ) → numberOfReading c meter status seq ≡ 0 → Taken c meter
+-- a reading that is taken is one of a fitted meter
+taken-fitted : (c : Config) (meter status seq : ℕ) → numberOfReading c meter status seq ≡ 0 → eqb (getD (c .limits) meter 0) 0 ≡ false
 unfolding numberOfReading
-taken-is c meter status seq e =
+taken-fitted c meter status seq e =
     by-test (ltb 31 meter) (λ t. absurd (omega (arith, rw t at e)))
-    (λ f.
-    by-test (eqb (getD (c .limits) meter 0) 0) (λ t. absurd (omega (arith, rw (f, t) at e)))
-    (λ g. record { there = omega (arith, ltb-false 31 meter f); fitted = g }))
+    (λ f. by-test (eqb (getD (c .limits) meter 0) 0) (λ t. absurd (omega (arith, rw (f, t) at e))) (λ g. g))
 
 -- and is entered
 entered-is : (c : Config) (a : Account) (meter : ℕ) (value : ℤ) (status seq : ℕ) → answerOf c a (reading meter value status seq) ≡ 0
@@ -126,7 +120,7 @@ entered-is : (c : Config) (a : Account) (meter : ℕ) (value : ℤ) (status seq 
 unfolding withCall
 entered-is c a meter value status seq e = rw e
 
-module _ (c : Config) (a : Account) (meter : ℕ) (value : ℤ) (status seq : ℕ) (taken : Taken c meter) where
+module _ (c : Config) (a : Account) (meter : ℕ) (value : ℤ) (status seq : ℕ) (fitted : eqb (getD (c .limits) meter 0) 0 ≡ false) where
   -- the account with the reading entered
   abbrev read : Account
   read = record { time = a .time; journal = heard (a .time .second) meter value status seq ∷ a .journal }
@@ -143,15 +137,15 @@ module _ (c : Config) (a : Account) (meter : ℕ) (value : ℤ) (status seq : �
 
   ahead-read : aheadIn c read meter ≡ false
   unfolding aheadIn
-  ahead-read = rw (eq-eqb meter meter refl, taken .fitted, no-ahead)
+  ahead-read = rw (eq-eqb meter meter refl, fitted, no-ahead)
 
   past-read : pastIn c read meter ≡ false
   unfolding pastIn
-  past-read = rw (eq-eqb meter meter refl, taken .fitted, no-past)
+  past-read = rw (eq-eqb meter meter refl, fitted, no-past)
 
   awake-read : awakeIn c read meter ≡ not (eqb (status % 2) 1)
   unfolding awakeIn
-  awake-read = rw (eq-eqb meter meter refl, taken .fitted, no-ahead, no-past)
+  awake-read = rw (eq-eqb meter meter refl, fitted, no-ahead, no-past)
 
   -- IV is shown where it was sent
   shown-read : shown c read 82 meter ≡ bytesOf 4 now ++ (bytesOf 4 (ofZ w32 value) ++ (bytesOf 1 status ++ bytesOf 1 seq))
@@ -181,15 +175,15 @@ module _ (setup : Setup) (lent : ℕ) where
   read-again c accepted time calls meter value status seq e =
       let call = reading meter value status seq in
       let a = accountOf c time calls in
-      let taken = taken-is c meter status seq e in
-      let is : accountOf c time (call ∷ calls) ≡ read c a meter value status seq taken = entered-is c a meter value status seq e in
+      let fitted = taken-fitted c meter status seq e in
+      let is : accountOf c time (call ∷ calls) ≡ read c a meter value status seq fitted = entered-is c a meter value status seq e in
       record {
-        not-ahead = ap (λ (x : Account). aheadIn c x meter) is ∙ ahead-read c a meter value status seq taken;
-        not-past = ap (λ (x : Account). pastIn c x meter) is ∙ past-read c a meter value status seq taken;
-        awake = ap (λ (x : Account). awakeIn c x meter) is ∙ awake-read c a meter value status seq taken;
+        not-ahead = ap (λ (x : Account). aheadIn c x meter) is ∙ ahead-read c a meter value status seq fitted;
+        not-past = ap (λ (x : Account). pastIn c x meter) is ∙ past-read c a meter value status seq fitted;
+        awake = ap (λ (x : Account). awakeIn c x meter) is ∙ awake-read c a meter value status seq fitted;
         register = λ buffer n answered.
             registers-of-history setup lent c accepted time (call ∷ calls) 82 meter buffer n answered
-            ∙ ap (λ (bytes : List ℕ). bytes ++ drop n buffer) (ap (λ (x : Account). shown c x 82 meter) is ∙ shown-read c a meter value status seq taken);
+            ∙ ap (λ (bytes : List ℕ). bytes ++ drop n buffer) (ap (λ (x : Account). shown c x 82 meter) is ∙ shown-read c a meter value status seq fitted);
       }
 
   pub clock-back : ClockBack setup lent

@@ -89,8 +89,8 @@ uint64_t recorder_calendar(uint32_t seconds);
  *
  * Answers a refusal, tested before anything else, also where there was no reading: 8 for limit 0, then 10 for a STATUS above 7. Else the class, tested in
  * this order: 3 never, 1 stale, 2 invalid, 0 awake. A reading is stale if it is more than `limit` seconds old, and also if its stamp lies ahead of
- * the clock, as after a clock set back, until the meter is read again or the clock has come to the stamp. One that is exactly `limit` seconds old is
- * not stale, nor is one whose stamp is the clock. Classes are below RECORDER_NOT_FITTED, refusals are not.
+ * the clock, as it may after a clock set back, until the meter is read again or the clock has come to the stamp. One that is exactly `limit`
+ * seconds old is not stale, nor is one whose stamp is the clock. Classes are below RECORDER_NOT_FITTED, refusals are not.
  */
 uint32_t recorder_age_class(uint32_t limit, uint32_t read, uint32_t stamp, uint32_t status, uint32_t clock);
 

@@ -1,30 +1,34 @@
 -- Quiet meters after the clock went back: what the classes, the registers and the samples do to a stamp that is ahead.
-use mathlib.Core.Path.{_≡_, refl, ap, _∙_}
-use mathlib.Core.Bool.{Bool, true, false, not, _&&_, _||_}
+use mathlib.Core.Path.{_≡_, refl, sym, ap, fun-ext, _∙_}
+use mathlib.Core.Bool.{Bool, true, false, not, _&&_, _||_, cond}
 use mathlib.Core.List.{List, [], _∷_, _++_}
-use Prim.Native.Nat.{ℕ, _+_, _*_, _/_, _%_, _≤_}
+use Prim.Native.Nat.{ℕ, _+_, _*_, _/_, _%_, _<_, _≤_}
 use native.Mathlib.Omega.{arith}
-use borrow.Author.Tests.{lt-ltb, le-ltb, eq-eqb, ne-eqb, ltb-true, eqb-true}
+use borrow.Author.Tests.{lt-ltb, le-ltb, eq-eqb, ne-eqb, ltb-true, ltb-false, eqb-true}
 use lib.Dec.{ltb, eqb}
-use lib.IntN.{ℤ}
+use lib.IntN.{ℤ, pos}
 use lib.ListN.{length, getD, drop}
 use mir.Syntax.{w32}
 use mir.Val.{ofZ}
-use Rattle.laws.proofs.Tests.{by-test, and-right}
+use Rattle.laws.proofs.Tests.{by-test}
 use Rattle.laws.specs.Bytes.{bytesOf}
+use Rattle.laws.specs.Counts.{countOf}
 use Rattle.laws.specs.Masks.{bit}
-use Rattle.laws.proofs.Total.{total-cong, total-plus}
+use Rattle.laws.specs.SignedTotal.{totalℤ}
+use Rattle.laws.specs.Total.{total}
+use Rattle.laws.proofs.Total.{total-cong, total-plus, total-one}
 use Rattle.settings.specs.declared.Config.{Config}
 use Rattle.sampling.specs.Periods.{multiple}
 use Rattle.recorder.specs.History.{Call, sample, reading}
 use Rattle.recorder.specs.Meters.{classOf, ageOf}
 use Rattle.recorder.specs.declared.Setup.{Setup}
-use Rattle.registers.specs.Fleet.{meterAt}
+use Rattle.registers.specs.Fleet.{meterAt, fleetOf}
 use Rattle.registers.specs.declared.fleet.Fleet.{Fleet}
 use Rattle.demands.specs.Account.{Time, Account, heard, lastReading, numberOfSample, numberOfReading, answerOf, stepped, counted, withCall, accountOf}
-use Rattle.demands.specs.Shown.{awakeIn, fleetIn, shown}
-use Rattle.demands.specs.Demand2.{withSamples}
-use Rattle.demands.specs.ClockBack.{AheadIsStale, AheadIsMarked, readIn, aheadIn, pastIn, AheadNotAwake, SetBackIsAhead, StaysAhead, AheadIsCounted, ReadAgain, ClockBack}
+use Rattle.demands.specs.Shown.{awakeIn, fleetIn, serialShown, shown}
+use Rattle.demands.specs.Starts.{Accepted}
+use Rattle.demands.specs.Demand2.{reached, withSamples}
+use Rattle.demands.specs.ClockBack.{AheadIsStale, AheadIsMarked, readIn, aheadIn, pastIn, freshIn, SetBackIsAhead, StaysAhead, AheadIsShown, AheadIsCounted, ReadAgain, ClockBack}
 use Rattle.demands.proofs.Shown.{invalid-mark, registers-of-history, fleet-of-history}
 
 pub ahead-is-stale : AheadIsStale
@@ -48,12 +52,26 @@ ahead-is-marked r meter buffer n e ahead =
     invalid-mark r meter buffer n e
     (rw (lt-ltb (r .state .clock) (m .stamp) ahead) (asleep (eqb limit 0) (m .read) (ltb (m .stamp + limit) (r .state .clock)) (eqb (m .status % 2) 1)))
 
-pub ahead-not-awake : AheadNotAwake
-unfolding aheadIn awakeIn
-ahead-not-awake c a i e =
+-- the awake are the fresh
+fresh-awake : (c : Config) (a : Account) (i : ℕ) → awakeIn c a i ≡ freshIn c a i
+unfolding awakeIn freshIn aheadIn pastIn
+fresh-awake c a i =
     let m = lastReading (a .journal) i in
     let limit = getD (c .limits) i 0 in
-    rw (and-right (readIn c a i) (ltb (a .time .second) (m .stamp)) e) (asleep (eqb limit 0) (m .read) (ltb (m .stamp + limit) (a .time .second)) (eqb (m .status % 2) 1))
+    same (not (eqb limit 0)) (m .read) (ltb (a .time .second) (m .stamp)) (ltb (m .stamp + limit) (a .time .second)) (eqb (m .status % 2) 1)
+  where
+    same : (fitted read ahead past marked : Bool)
+        → ((fitted && (read && not (fitted && (read && (ahead || past))))) && not marked) ≡ ((fitted && read) && (not ((fitted && read) && ahead) && (not ((fitted && read) && past) && not marked)))
+    same false read ahead past marked = refl
+    same true false ahead past marked = refl
+    same true true true past marked = refl
+    same true true false true marked = refl
+    same true true false false marked = refl
+
+-- so none that is ahead is awake
+ahead-asleep : (c : Config) (a : Account) (i : ℕ) → aheadIn c a i ≡ true → awakeIn c a i ≡ false
+unfolding freshIn
+ahead-asleep c a i e = fresh-awake c a i ∙ rw e (by-test (readIn c a i) (λ t. rw t) (λ f. rw f))
 
 pub set-back-is-ahead : SetBackIsAhead
 unfolding aheadIn accountOf withCall
@@ -107,12 +125,22 @@ either true true true past h = rw (h refl)
 either true true false true h = refl
 either true true false false h = refl
 
--- a reading that is taken is one of a fitted meter
-taken-fitted : (c : Config) (meter status seq : ℕ) → numberOfReading c meter status seq ≡ 0 → eqb (getD (c .limits) meter 0) 0 ≡ false
+-- how many are stale
+abbrev staleCount : Config → Account → ℕ
+staleCount c a = total 32 (λ i. bit (aheadIn c a i) + bit (pastIn c a i))
+
+-- a reading that is taken is one of a meter that is there and fitted
+record Taken (c : Config) (meter : ℕ) : Type 0 where
+  there : meter < 32
+  fitted : eqb (getD (c .limits) meter 0) 0 ≡ false
+
+taken-is : (c : Config) (meter status seq : ℕ) → numberOfReading c meter status seq ≡ 0 → Taken c meter
 unfolding numberOfReading
-taken-fitted c meter status seq e =
+taken-is c meter status seq e =
     by-test (ltb 31 meter) (λ t. absurd (omega (arith, rw t at e)))
-    (λ f. by-test (eqb (getD (c .limits) meter 0) 0) (λ t. absurd (omega (arith, rw (f, t) at e))) (λ g. g))
+    (λ f.
+    by-test (eqb (getD (c .limits) meter 0) 0) (λ t. absurd (omega (arith, rw (f, t) at e)))
+    (λ g. record { there = omega (arith, ltb-false 31 meter f); fitted = g }))
 
 -- and is entered
 entered-is : (c : Config) (a : Account) (meter : ℕ) (value : ℤ) (status seq : ℕ) → answerOf c a (reading meter value status seq) ≡ 0
@@ -120,7 +148,7 @@ entered-is : (c : Config) (a : Account) (meter : ℕ) (value : ℤ) (status seq 
 unfolding withCall
 entered-is c a meter value status seq e = rw e
 
-module _ (c : Config) (a : Account) (meter : ℕ) (value : ℤ) (status seq : ℕ) (fitted : eqb (getD (c .limits) meter 0) 0 ≡ false) where
+module _ (c : Config) (a : Account) (meter : ℕ) (value : ℤ) (status seq : ℕ) (taken : Taken c meter) where
   -- the account with the reading entered
   abbrev read : Account
   read = record { time = a .time; journal = heard (a .time .second) meter value status seq ∷ a .journal }
@@ -137,15 +165,23 @@ module _ (c : Config) (a : Account) (meter : ℕ) (value : ℤ) (status seq : �
 
   ahead-read : aheadIn c read meter ≡ false
   unfolding aheadIn
-  ahead-read = rw (eq-eqb meter meter refl, fitted, no-ahead)
+  ahead-read = rw (eq-eqb meter meter refl, taken .fitted, no-ahead)
 
   past-read : pastIn c read meter ≡ false
   unfolding pastIn
-  past-read = rw (eq-eqb meter meter refl, fitted, no-past)
+  past-read = rw (eq-eqb meter meter refl, taken .fitted, no-past)
 
   awake-read : awakeIn c read meter ≡ not (eqb (status % 2) 1)
   unfolding awakeIn
-  awake-read = rw (eq-eqb meter meter refl, fitted, no-ahead, no-past)
+  awake-read = rw (eq-eqb meter meter refl, taken .fitted, no-ahead, no-past)
+
+  -- all other meters are as they were
+  others-read : (j : ℕ) → (j ≡ meter → ⊥) → (aheadIn c a j ≡ aheadIn c read j) × (pastIn c a j ≡ pastIn c read j)
+  unfolding aheadIn pastIn
+  others-read j other = let no = ne-eqb meter j (λ e. other (sym e)) in (rw no, rw no)
+
+  stale-read : staleCount c a ≡ staleCount c read + (bit (aheadIn c a meter) + bit (pastIn c a meter))
+  stale-read = total-one 32 _ _ meter _ (taken .there) (rw (ahead-read, past-read) (omega arith)) (λ j l other. rw (others-read j other .0, others-read j other .1))
 
   -- IV is shown where it was sent
   shown-read : shown c read 82 meter ≡ bytesOf 4 now ++ (bytesOf 4 (ofZ w32 value) ++ (bytesOf 1 status ++ bytesOf 1 seq))
@@ -157,9 +193,16 @@ module _ (c : Config) (a : Account) (meter : ℕ) (value : ℤ) (status seq : �
       (λ clear. rw clear))
 
 module _ (setup : Setup) (lent : ℕ) where
-  pub ahead-is-counted : AheadIsCounted setup lent
+  pub ahead-is-shown : AheadIsShown setup lent
+  unfolding shown
+  ahead-is-shown c accepted time calls meter buffer n ahead answered =
+      let a = accountOf c time calls in
+      registers-of-history setup lent c accepted time calls 82 meter buffer n answered
+      ∙ ap (λ (awake : Bool). serialShown (lastReading (a .journal) meter) awake ++ drop n buffer) (ahead-asleep c a meter ahead)
+
+  stale-is : (c : Config) → Accepted c → (time : ℕ) (calls : List Call) → fleetOf (reached setup lent c time calls) .stale ≡ staleCount c (accountOf c time calls)
   unfolding fleetIn aheadIn pastIn
-  ahead-is-counted c accepted time calls =
+  stale-is c accepted time calls =
       let a = accountOf c time calls in
       ap (λ (f : Fleet). f .stale) (fleet-of-history setup lent c accepted time calls)
       ∙ total-cong 32 _ _
@@ -168,22 +211,35 @@ module _ (setup : Setup) (lent : ℕ) where
       let limit = getD (c .limits) i 0 in
       either (not (eqb limit 0)) (lastReading (a .journal) i .read) (ltb (a .time .second) stamp) (ltb (stamp + limit) (a .time .second))
       (λ ahead. le-ltb (stamp + limit) (a .time .second) (omega (arith, ltb-true (a .time .second) stamp ahead))))
-      ∙ total-plus 32 _ _
+
+  pub ahead-is-counted : AheadIsCounted setup lent
+  unfolding fleetIn
+  ahead-is-counted c accepted time calls =
+      let a = accountOf c time calls in
+      let fleet = fleet-of-history setup lent c accepted time calls in
+      let fresh : _≡_ {A = ℕ → Bool} (λ i. awakeIn c a i) (λ i. freshIn c a i) = fun-ext (fresh-awake c a) in (
+        stale-is c accepted time calls ∙ total-plus 32 _ _,
+        ap (λ (f : Fleet). f .awake) fleet ∙ ap (λ (p : ℕ → Bool). countOf 32 p) fresh,
+        ap (λ (f : Fleet). f .sum) fleet ∙ ap (λ (p : ℕ → Bool). totalℤ 32 (λ i. cond (p i) (lastReading (a .journal) i .value) (pos 0))) fresh,
+      )
 
   pub read-again : ReadAgain setup lent
   unfolding accountOf
   read-again c accepted time calls meter value status seq e =
       let call = reading meter value status seq in
       let a = accountOf c time calls in
-      let fitted = taken-fitted c meter status seq e in
-      let is : accountOf c time (call ∷ calls) ≡ read c a meter value status seq fitted = entered-is c a meter value status seq e in
+      let taken = taken-is c meter status seq e in
+      let is : accountOf c time (call ∷ calls) ≡ read c a meter value status seq taken = entered-is c a meter value status seq e in
       record {
-        not-ahead = ap (λ (x : Account). aheadIn c x meter) is ∙ ahead-read c a meter value status seq fitted;
-        not-past = ap (λ (x : Account). pastIn c x meter) is ∙ past-read c a meter value status seq fitted;
-        awake = ap (λ (x : Account). awakeIn c x meter) is ∙ awake-read c a meter value status seq fitted;
+        not-ahead = ap (λ (x : Account). aheadIn c x meter) is ∙ ahead-read c a meter value status seq taken;
+        not-past = ap (λ (x : Account). pastIn c x meter) is ∙ past-read c a meter value status seq taken;
+        fresh = ap (λ (x : Account). freshIn c x meter) is ∙ sym (fresh-awake c (read c a meter value status seq taken) meter) ∙ awake-read c a meter value status seq taken;
+        one-less =
+            stale-is c accepted time calls ∙ stale-read c a meter value status seq taken
+            ∙ ap (λ (n : ℕ). n + (bit (aheadIn c a meter) + bit (pastIn c a meter))) (ap (λ (x : Account). staleCount c x) (sym is) ∙ sym (stale-is c accepted time (call ∷ calls)));
         register = λ buffer n answered.
             registers-of-history setup lent c accepted time (call ∷ calls) 82 meter buffer n answered
-            ∙ ap (λ (bytes : List ℕ). bytes ++ drop n buffer) (ap (λ (x : Account). shown c x 82 meter) is ∙ shown-read c a meter value status seq fitted);
+            ∙ ap (λ (bytes : List ℕ). bytes ++ drop n buffer) (ap (λ (x : Account). shown c x 82 meter) is ∙ shown-read c a meter value status seq taken);
       }
 
   pub clock-back : ClockBack setup lent
@@ -191,9 +247,9 @@ module _ (setup : Setup) (lent : ℕ) where
       record {
         stale = ahead-is-stale;
         marked = ahead-is-marked;
-        not-awake = ahead-not-awake;
         set-back = set-back-is-ahead;
         stays = stays-ahead;
+        shown = ahead-is-shown;
         counted = ahead-is-counted;
         read-again = read-again;
       }

@@ -1,17 +1,19 @@
 -- CR 2, quiet meters after the clock went back: "A stamp ahead of the clock shall be stale. Groups 82 and 204 follow; a meter read again at the new time is stale no longer." The classes are spelled out in
 -- Shown.antt, and demand 2 speaks of all of them; here each of these sentences stands by itself.
 use mathlib.Core.Path.{_≡_}
-use mathlib.Core.Bool.{Bool, true, false, not, _&&_}
+use mathlib.Core.Bool.{Bool, true, false, not, _&&_, cond}
 use mathlib.Core.List.{List, _∷_, _++_}
-use Prim.Native.Nat.{ℕ, _+_, _*_, _%_, _<_, _≤_}
+use Prim.Native.Nat.{ℕ, _+_, _*_, _/_, _%_, _<_, _≤_}
 use lib.Dec.{ltb, eqb}
-use lib.IntN.{ℤ}
+use lib.IntN.{ℤ, pos}
 use lib.ListN.{length, getD, drop}
 use mir.Syntax.{w32}
 use mir.Val.{ofZ}
 use Rattle.laws.specs.Answers.{given}
 use Rattle.laws.specs.Bytes.{bytesOf}
 use Rattle.laws.specs.Counts.{countOf}
+use Rattle.laws.specs.Masks.{bit}
+use Rattle.laws.specs.SignedTotal.{totalℤ}
 use Rattle.settings.specs.declared.Config.{Config}
 use Rattle.recorder.specs.History.{Call, set, reading}
 use Rattle.recorder.specs.Meters.{classOf, ageOf}
@@ -21,7 +23,6 @@ use Rattle.registers.specs.Fleet.{meterAt, fleetOf}
 use Rattle.registers.specs.Registers.{registerReply}
 use Rattle.demands.specs.Account.{Account, lastReading, answerOf, accountOf}
 use Rattle.demands.specs.Starts.{Accepted}
-use Rattle.demands.specs.Shown.{awakeIn}
 use Rattle.demands.specs.Demand2.{reached, withSamples}
 
 -- Every meter and every recorder
@@ -51,9 +52,9 @@ aheadIn c a i = readIn c a i && ltb (a .time .second) (lastReading (a .journal) 
 unfoldable pub pastIn : Config → Account → ℕ → Bool
 pastIn c a i = readIn c a i && ltb (lastReading (a .journal) i .stamp + getD (c .limits) i 0) (a .time .second)
 
--- no meter that is ahead is awake: it is none of the awake that group 204 counts and adds up
-abbrev pub AheadNotAwake : Type 0
-AheadNotAwake = (c : Config) (a : Account) (i : ℕ) → aheadIn c a i ≡ true → awakeIn c a i ≡ false
+-- it was read, and is neither ahead nor past, nor did its reading come with IV
+unfoldable pub freshIn : Config → Account → ℕ → Bool
+freshIn c a i = readIn c a i && (not (aheadIn c a i) && (not (pastIn c a i) && not (eqb (lastReading (a .journal) i .status % 2) 1)))
 
 -- "We set the clock back": a meter that was read is ahead after an accepted clock set to a time before its stamp
 abbrev pub SetBackIsAhead : Type 0
@@ -71,19 +72,36 @@ StaysAhead =
 
 -- A start with any chosen slots and a buffer of any length
 module _ (setup : Setup) (lent : ℕ) where
-  -- "Groups .. 204 follow": the stale meters are those that are ahead and those that the clock is past, each counted once
+  -- "Groups 82 .. follow", from the account: the register of a meter that is ahead shows its last accepted reading, with IV set in STATUS
+  abbrev pub AheadIsShown : Type 0
+  AheadIsShown =
+      (c : Config) → Accepted c → (time : ℕ) (calls : List Call) (meter : ℕ) (buffer : List ℕ) (n : ℕ) →
+      let m = lastReading (accountOf c time calls .journal) meter in
+      let reply = registerReply (reached setup lent c time calls) 82 meter buffer in
+      aheadIn c (accountOf c time calls) meter ≡ true → reply .answer ≡ given n
+      → reply .buffer ≡ (bytesOf 4 (m .stamp) ++ (bytesOf 4 (ofZ w32 (m .value)) ++ (bytesOf 1 (m .status / 2 * 2 + 1) ++ bytesOf 1 (m .seq)))) ++ drop n buffer
+
+  -- "Groups .. 204 follow": the stale meters are those that are ahead and those that the clock is past, each counted once; the awake are the fresh ones, and the sum is theirs
   abbrev pub AheadIsCounted : Type 0
   AheadIsCounted =
       (c : Config) → Accepted c → (time : ℕ) (calls : List Call) →
       let a = accountOf c time calls in
-      fleetOf (reached setup lent c time calls) .stale ≡ countOf 32 (aheadIn c a) + countOf 32 (pastIn c a)
+      let fleet = fleetOf (reached setup lent c time calls) in
+      (fleet .stale ≡ countOf 32 (aheadIn c a) + countOf 32 (pastIn c a))
+      × (fleet .awake ≡ countOf 32 (freshIn c a))
+      × (fleet .sum ≡ totalℤ 32 (λ i. cond (freshIn c a i) (lastReading (a .journal) i .value) (pos 0)))
 
   -- what is so of a meter once a reading of it was accepted
   pub record StaleNoLonger (c : Config) (time : ℕ) (calls : List Call) (meter : ℕ) (value : ℤ) (status seq : ℕ) : Type 0 where
-    -- it is none of the stale, and awake unless the reading itself has IV
+    -- it is neither ahead nor past, and fresh unless the reading itself has IV
     pub not-ahead : aheadIn c (accountOf c time (reading meter value status seq ∷ calls)) meter ≡ false
     pub not-past : pastIn c (accountOf c time (reading meter value status seq ∷ calls)) meter ≡ false
-    pub awake : awakeIn c (accountOf c time (reading meter value status seq ∷ calls)) meter ≡ not (eqb (status % 2) 1)
+    pub fresh : freshIn c (accountOf c time (reading meter value status seq ∷ calls)) meter ≡ not (eqb (status % 2) 1)
+    -- if it was stale, the stale that group 204 counts are one less; else they are as many
+    pub one-less :
+        let a = accountOf c time calls in
+        fleetOf (reached setup lent c time calls) .stale
+        ≡ fleetOf (reached setup lent c time (reading meter value status seq ∷ calls)) .stale + (bit (aheadIn c a meter) + bit (pastIn c a meter))
     -- its register shows the clock and the reading as it was sent
     pub register : (buffer : List ℕ) (n : ℕ) →
         let now = accountOf c time calls .time .second in
@@ -100,8 +118,8 @@ module _ (setup : Setup) (lent : ℕ) where
   pub record ClockBack : Type 0 where
     pub stale : AheadIsStale
     pub marked : AheadIsMarked
-    pub not-awake : AheadNotAwake
     pub set-back : SetBackIsAhead
     pub stays : StaysAhead
+    pub shown : AheadIsShown
     pub counted : AheadIsCounted
     pub read-again : ReadAgain

@@ -3,15 +3,15 @@ use mathlib.Core.Path.{_≡_}
 use mathlib.Core.List.{List, [], _∷_}
 use Prim.Native.Nat.{ℕ, _<_}
 use lib.IntN.{ℤ, pos, negsuc}
-use lib.ListN.{length}
+use lib.ListN.{length, replicate}
+use Rattle.laws.specs.Answers.{given}
 use Rattle.laws.specs.Each.{Each}
 use Rattle.recorder.specs.History.{Call, set, reading}
 use Rattle.recorder.specs.declared.Setup.{Setup}
 use Rattle.registers.specs.Cases.{AgeCase, class-at, status-at, AgeClaim}
 use Rattle.registers.specs.Fleet.{fleetOf}
+use Rattle.registers.specs.Registers.{registerReply}
 use Rattle.registers.specs.declared.fleet.Fleet.{Fleet}
-use Rattle.demands.specs.Account.{accountOf}
-use Rattle.demands.specs.Shown.{shown}
 use Rattle.demands.specs.Demand2.{reached, withSamples}
 use Rattle.demands.specs.Example.{twoMakers, start}
 
@@ -37,8 +37,8 @@ pub record QuietMeters (setup : Setup) (lent : ℕ) : Type 0 where
   pub at-noon : fleetOf (reached setup lent twoMakers start lastHeard) ≡ ofFour 3 0 (pos 23)
   -- for that hour none of them is, whatever samples come, fewer than the 360,000 of an hour
   pub that-hour : (run : List ℕ) → length run < 360_000 → fleetOf (reached setup lent twoMakers start (withSamples run setBack)) ≡ ofFour 0 3 (pos 0)
-  -- meter 1 shows its stamp, 168 * 256 + 192, its 7, STATUS 4 with IV and its SEQ
-  pub marked : shown twoMakers (accountOf twoMakers start setBack) 82 1 ≡ 192 ∷ 168 ∷ 0 ∷ 0 ∷ 7 ∷ 0 ∷ 0 ∷ 0 ∷ 5 ∷ 2 ∷ []
+  -- register 1 of group 82 shows the stamp, 168 * 256 + 192, the 7, STATUS 4 with IV and the SEQ
+  pub marked : registerReply (reached setup lent twoMakers start setBack) 82 1 (replicate 10 0) ≡ record { answer = given 10; buffer = 192 ∷ 168 ∷ 0 ∷ 0 ∷ 7 ∷ 0 ∷ 0 ∷ 0 ∷ 5 ∷ 2 ∷ [] }
   -- at any time of that hour meter 1 is read again, and is awake; the two others are not
   pub read-again : (run : List ℕ) → length run < 360_000
       → fleetOf (reached setup lent twoMakers start (reading 1 (pos 9) 0 3 ∷ withSamples run setBack)) ≡ ofFour 1 2 (pos 9)

@@ -4,9 +4,6 @@ ghost use Prim.Native.Nat.{_<_};
 ghost use Rattle.calendar.specs.Dates.{leapYear, monthLength, dayExists, existsInSomeYear};
 ghost use Rattle.calendar.specs.Moments.{datedSaid, yearDay, momentAt, momentOf};
 
-// January to December; a leap year's February has a day more.
-const MONTH_LENGTHS: [u8; 12] = [31, 28, 31, 30, 31, 30, 31, 31, 30, 31, 30, 31];
-
 // A date with its weekday, 0 being Monday, and a time of day.
 pub struct Moment {
     pub year: u16,
@@ -35,7 +32,7 @@ pub fn is_leap(year: u16) -> bool
     (year % 4 == 0) & ((year % 100 != 0) | (year % 400 == 0))
 }
 
-// The days of a month, January being 1; 0 for a number that is no month's.
+// The days of a month, January being 1; 0 for a number that is no month's. Up to July the odd months have 31 days; from August on, where month / 8 is 1, the even ones.
 pub fn month_length(year: u16, month: u8) -> u8
     ensures { λ r. ⌜ r ≡ monthLength year month ⌝ }
 {
@@ -45,10 +42,13 @@ pub fn month_length(year: u16, month: u8) -> u8
     if month > 12 {
         return 0;
     }
-    if (month == 2) & is_leap(year) {
-        return 29;
+    if month == 2 {
+        if is_leap(year) {
+            return 29;
+        }
+        return 28;
     }
-    MONTH_LENGTHS[(month as usize) - 1]
+    30 + (month + month / 8) % 2
 }
 
 pub fn day_exists(day: u8, month: u8, year: u16) -> bool
@@ -91,7 +91,7 @@ fn moment_at(seconds: u32, year: u16, month: u8, day: u8) -> Moment
     }
 }
 
-// The moment of a second counted from 1.1.1970 00:00: the year by arithmetic, the month by a loop over the table.
+// The moment of a second counted from 1.1.1970 00:00: the year by arithmetic, the month by a loop over the month lengths.
 pub fn moment_of(seconds: u32) -> Dated
     ensures { λ r. ⌜ datedSaid r ≡ momentOf seconds ⌝ }
 {

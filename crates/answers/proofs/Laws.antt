@@ -20,7 +20,8 @@ use Rattle.laws.specs.If.{if_then_else_}
 use Rattle.laws.specs.Letters.{letters}
 use Rattle.answers.specs.declared.Text.{Text}
 use Rattle.answers.specs.Texts.{withByte, withBytes, rowAt}
-use Rattle.answers.specs.Numbers.{digit, decimalIn, decimalOf, decimalSigned, hexDigit, hexOf}
+use Rattle.laws.specs.Decimals.{digit, decimalIn}
+use Rattle.answers.specs.Numbers.{decimalOf, decimalSigned, hexDigit, hexOf}
 use Rattle.answers.specs.Answers.{lineEnd, imagePart, weekdayNames, weekdayName}
 
 -- letters after letters

@@ -23,7 +23,8 @@ use Rattle.registers.specs.declared.fleet.Fleet.{Fleet}
 use Rattle.image.specs.Answers.{imageAnswer}
 use Rattle.answers.specs.declared.Text.{Text}
 use Rattle.answers.specs.Texts.{withByte, withBytes, asText}
-use Rattle.answers.specs.Numbers.{decimalIn, decimalOf, decimalSigned, hexOf}
+use Rattle.laws.specs.Decimals.{decimalIn}
+use Rattle.answers.specs.Numbers.{decimalOf, decimalSigned, hexOf}
 use Rattle.answers.specs.Errors.{wordsText, numbersText, mistakeText}
 use Rattle.answers.specs.Answers.{lineEnd, okLine, refusedLine, refusedAt, refusedAfter, startLine, registerLine, recordLine, imagePart, weekdayName, dateLine, fleetLine, errorLine}
 use Rattle.answers.specs.Laws.{TextIs, Fits, NoneCut, EmptyLine, partsFrom, PartsJoin}

@@ -1,18 +1,10 @@
 -- Numbers in letters.
-use mathlib.Core.List.{List, [], _∷_, _++_}
-use Prim.Native.Nat.{ℕ, zero, suc, _+_, _/_, _%_}
+use mathlib.Core.List.{List, [], _∷_}
+use Prim.Native.Nat.{ℕ, suc, _+_, _/_, _%_}
 use lib.Dec.{ltb}
 use lib.IntN.{ℤ, pos, negsuc}
 use Rattle.laws.specs.If.{if_then_else_}
-
--- the last decimal digit of a number; 48 is 0
-abbrev pub digit : ℕ → ℕ
-digit n = 48 + n % 10
-
--- a number of at most k digits in decimal, with no zero in front: one digit, or the number without its last digit, and that digit
-unfoldable pub decimalIn : ℕ → ℕ → List ℕ
-decimalIn zero n = []
-decimalIn (suc k) n = if ltb n 10 then digit n ∷ [] else decimalIn k (n / 10) ++ (digit n ∷ [])
+use Rattle.laws.specs.Decimals.{digit, decimalIn}
 
 -- a number of 64 bits in decimal: it has at most 20 digits
 unfoldable pub decimalOf : ℕ → List ℕ

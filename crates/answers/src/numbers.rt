@@ -4,11 +4,12 @@ use crate::texts::with_byte;
 ghost use mathlib.Core.Path.{_≡_};
 ghost use mathlib.Core.List.{_∷_};
 ghost use Rattle.answers.specs.Texts.{withBytes};
+ghost use Rattle.laws.specs.Decimals.{digit as Decimals·digit};
 ghost use Rattle.answers.specs.Numbers.{decimalOf, decimalSigned, twoDigits, hexOf};
-ghost use Rattle.answers.specs.Numbers.{digit as Numbers·digit, hexDigit as Numbers·hexDigit};
+ghost use Rattle.answers.specs.Numbers.{hexDigit as Numbers·hexDigit};
 
 fn digit(n: u64) -> u8
-    ensures { λ r. ⌜ r ≡ Numbers·digit n ⌝ }
+    ensures { λ r. ⌜ r ≡ Decimals·digit n ⌝ }
 {
     48 + (n % 10) as u8
 }

@@ -14,6 +14,7 @@ pub mod Tables
 pub mod Sparse
 pub mod Keys
 pub mod Bytes
+pub mod Decimals
 pub mod Signed
 pub mod Runs
 pub mod Stores

@@ -1,16 +1,16 @@
 -- "signed ones are two's complement", over the width: `!` of the bits of a negative number is below the sign bit, and a second `!` gives the bits back.
-use mathlib.Core.Path.{_≡_}
+use mathlib.Core.Path.{_≡_, refl}
 use mathlib.Core.Bool.{true, false, true≢false}
-use Prim.Native.Nat.{suc, _-_, _^_, _<_}
+use Prim.Native.Nat.{ℕ, zero, suc, _-_, _^_, _<_, _≤_}
 use native.Mathlib.Nat.{lt-trans, not-suc-le-zero}
 use native.Mathlib.Omega.{arith}
 use borrow.Author.Tests.{ltb-true}
 use lib.Dec.{lit<}
-use lib.IntN.{ℤ, pos, negsuc}
+use lib.IntN.{ℤ, pos, negsuc, negℤ}
 use lib.Signed.{mag, ltZ}
 use mir.Syntax.{Width, w8, w16, w32, w64, w128}
 use mir.Val.{SFits, bits, hbits, toZ, ofZ}
-use mir.Facts.{toZ-pos}
+use mir.Facts.{toZ-pos, toZ-neg}
 
 -- the sign bit is one of the bits
 half : (w : Width) → 2 ^ hbits w < 2 ^ bits w
@@ -39,3 +39,8 @@ negative w (negsuc n) h t =
 pub natural : (w : Width) (z : ℤ) → SFits w z → ltZ z (pos 0) ≡ false → toZ w (ofZ w z) ≡ pos (ofZ w z)
 natural w (pos n) h t = toZ-pos w (h .sfits)
 natural w (negsuc n) h t = absurd (true≢false t)
+
+-- the bits of -n, as `!` of n - 1 makes them
+pub negated : (n : ℕ) → (n ≡ 0 → ⊥) → n ≤ 2147483648 → toZ w32 (4294967295 - (n - 1)) ≡ negℤ (pos n)
+negated zero h g = absurd (h refl)
+negated (suc m) h g = let e : 4294967295 - (suc m - 1) ≡ 4294967296 - suc m = omega arith in rw e (toZ-neg w32 m g)

@@ -11,6 +11,7 @@ pub mod Counts
 pub mod Tables
 pub mod Each
 pub mod Bytes
+pub mod Decimals
 pub mod Letters
 pub mod Answers
 pub mod Unique

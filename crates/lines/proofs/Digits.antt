@@ -9,18 +9,13 @@ use borrow.Author.Tests.{lt-leb, le-leb}
 use lib.Dec.{leb}
 use lib.ListN.{length, getD, drop, drop-of-length-le}
 use lib.Seq.{drop-cons}
+use Rattle.laws.specs.Decimals.{isDigit, digits, valueFrom}
 use Rattle.laws.proofs.Tests.{by-test}
-use Rattle.lines.specs.Numbers.{isDigit, digits, valueFrom}
+use Rattle.laws.proofs.Decimals.{grows}
 
 -- digits after n, and the number that they make with it is at most `most`
 unfoldable pub goesOn : ℕ → ℕ → List ℕ → Bool
 goesOn most n l = digits l && leb (valueFrom n l) most
-
--- digits make a number no smaller
-grows : (n : ℕ) (l : List ℕ) → n ≤ valueFrom n l
-unfolding valueFrom
-grows n [] = omega arith
-grows n (b ∷ rest) = let h = grows (n * 10 + (b - 48)) rest in omega arith
 
 -- a number that is too large stays so
 pub too-large : (most n : ℕ) (l : List ℕ) → most < n → goesOn most n l ≡ false
@@ -34,10 +29,6 @@ module _ (most n : ℕ) (l : List ℕ) (i : ℕ) where
   unfolding goesOn digits valueFrom
   on-turn h e = rw (add-one i, drop-cons l i 0, e)
 
-  pub value-turn : i < length l → valueFrom n (drop i l) ≡ valueFrom (n * 10 + (getD l i 0 - 48)) (drop (i + 1) l)
-  unfolding valueFrom
-  value-turn h = rw (add-one i, drop-cons l i 0)
-
   pub on-letter : i < length l → isDigit (getD l i 0) ≡ false → goesOn most n (drop i l) ≡ false
   unfolding goesOn digits valueFrom
   on-letter h e = rw (drop-cons l i 0, e)
@@ -45,7 +36,3 @@ module _ (most n : ℕ) (l : List ℕ) (i : ℕ) where
   pub on-end : length l ≤ i → n ≤ most → goesOn most n (drop i l) ≡ true
   unfolding goesOn digits valueFrom
   on-end h g = rw (drop-of-length-le l h, le-leb n most g)
-
-  pub value-end : length l ≤ i → valueFrom n (drop i l) ≡ n
-  unfolding valueFrom
-  value-end h = rw (drop-of-length-le l h)

@@ -1,27 +1,14 @@
 -- Decimal numbers: one digit or more, and nothing else. Zeros in front are allowed, a plus sign is not.
 use mathlib.Core.Bool.{Bool, true, false, _&&_}
-use mathlib.Core.List.{List, [], _∷_}
-use Prim.Native.Nat.{ℕ, _+_, _-_, _*_}
+use mathlib.Core.List.{List}
+use Prim.Native.Nat.{ℕ}
 use lib.Dec.{ltb, leb, eqb}
 use lib.IntN.{pos, negℤ}
 use lib.ListN.{length, getD, drop}
 use Rattle.laws.specs.If.{if_then_else_}
+use Rattle.laws.specs.Decimals.{digits, valueFrom}
 use Rattle.lines.specs.declared.numbers.Number.{Number}
 use Rattle.lines.specs.declared.numbers.Signed.{Signed}
-
--- the letters 0 to 9
-abbrev pub isDigit : ℕ → Bool
-isDigit b = leb 48 b && leb b 57
-
--- all letters are digits
-unfoldable pub digits : List ℕ → Bool
-digits [] = true
-digits (b ∷ rest) = isDigit b && digits rest
-
--- the number that the digits make after n
-unfoldable pub valueFrom : ℕ → List ℕ → ℕ
-valueFrom n [] = n
-valueFrom n (b ∷ rest) = valueFrom (n * 10 + (b - 48)) rest
 
 -- a word is a number of at most `most`
 unfoldable pub isNumber : ℕ → List ℕ → Bool

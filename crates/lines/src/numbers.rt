@@ -2,8 +2,8 @@
 ghost use mathlib.Core.Path.{_≡_};
 ghost use Prim.Native.Nat.{_≤_};
 ghost use lib.IntN.{pos, negℤ};
+ghost use Rattle.laws.specs.Decimals.{isDigit as Decimals·isDigit};
 ghost use Rattle.lines.specs.Numbers.{noNumber, wholeOf, signedOf};
-ghost use Rattle.lines.specs.Numbers.{isDigit as Numbers·isDigit};
 
 // What a word is as a number; 0 stands beside a word that is none.
 pub struct Number {
@@ -18,7 +18,7 @@ pub struct Signed {
 }
 
 fn is_digit(b: u8) -> bool
-    ensures { λ r. ⌜ r ≡ Numbers·isDigit b ⌝ }
+    ensures { λ r. ⌜ r ≡ Decimals·isDigit b ⌝ }
 {
     (48 <= b) & (b <= 57)
 }

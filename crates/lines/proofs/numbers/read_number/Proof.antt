@@ -9,8 +9,10 @@ use borrow.Author.Tests.{lt-ltb, leb-true, not-true, not-false}
 use lib.Dec.{ltb}
 use lib.ListN.{length, getD, drop}
 use Rattle.laws.proofs.Tests.{by-test, and-left}
-use Rattle.lines.specs.Numbers.{isDigit, isNumber, valueFrom, wholeOf, noNumber}
-use Rattle.lines.proofs.Digits.{goesOn, too-large, on-turn, value-turn, on-letter, on-end, value-end}
+use Rattle.laws.proofs.Decimals.{value-turn, value-end}
+use Rattle.laws.specs.Decimals.{isDigit, valueFrom}
+use Rattle.lines.specs.Numbers.{isNumber, wholeOf, noNumber}
+use Rattle.lines.proofs.Digits.{goesOn, too-large, on-turn, on-letter, on-end}
 use Rattle.lines.proofs.numbers.read_number.Statement.{statement}
 use Rattle.lines.proofs.numbers.read_number.Tie as tie
 
@@ -80,14 +82,14 @@ loop-again c =
       omega arith,
       c .if3 .left,
       l .inv .2 ∙ on-turn (a .most) (l .value) (a .w .now) (l .i) (omega arith) (digit k),
-      l .inv .3 ∙ value-turn (a .most) (l .value) (a .w .now) (l .i) (omega arith),
+      l .inv .3 ∙ value-turn (l .value) (a .w .now) (l .i) (omega arith),
     )
 
 returns-4 : tie.Need-returns-4 Inv-loop μ-loop
 returns-4 c =
     let l = c .before .loop in
     let e : goesOn _ 0 _ ≡ true = l .inv .2 ∙ on-end _ _ _ _ (c .loop-test .left) (l .inv .1) in
-    let v = l .inv .3 ∙ value-end (c .before .before .before .before .args .most) _ _ _ (c .loop-test .left) in
+    let v = l .inv .3 ∙ value-end _ _ _ (c .loop-test .left) in
     (sym (one-of _ _ (c .before .before .if1 .left) e ∙ rw v refl), l .inv .1)
 
 pub read-number-spec : {M : Type 1} → statement M

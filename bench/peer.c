@@ -5,13 +5,13 @@
 #include <stdlib.h>
 #include <string.h>
 
-enum { SAMPLES = 1000, FEW = 10, CLOSINGS = 1000, PLACES = LONGEST_PROFILE / RECORD_LENGTH };
+enum { SAMPLES = 1000, FEW = 10, CLOSINGS = 1000, PLACES = LONGEST_PROFILE / RECORD_LENGTH, LINE_LENGTH = 25 };
 
 /* Tuesday 01.04.1997, 00:00. */
 static const uint32_t start_time = 859852800;
 
-static uint8_t input[IMAGE_LENGTH + 2 * SAMPLES];
-static const uint8_t *const image = input;
+static uint8_t input[IMAGE_LENGTH + 2 * SAMPLES + LINE_LENGTH];
+static const uint8_t *const image = input, *const data_set = input + IMAGE_LENGTH + 2 * SAMPLES;
 static uint16_t bits[SAMPLES];
 
 /* The load profile of every job: the longest buffer, of zeros at its start, and the first eight slots. */
@@ -167,6 +167,24 @@ static void records(uint32_t rounds) {
     printf("%u\n", sum);
 }
 
+/* How long the value is, and its number, which is another in each round. */
+static uint32_t read_data_set(uint32_t sum, struct sent line) {
+    struct value value;
+    uint32_t refusal = peer_data_set(line, 3, &value);
+    return refusal != 0 ? mixed(mixed(sum, refusal), 0) : mixed(mixed(sum, (uint32_t)value.number), value.length);
+}
+
+static void data_sets(uint32_t rounds) {
+    uint8_t line[LINE_LENGTH];
+    uint32_t sum = 0;
+    memcpy(line, data_set, sizeof line);
+    for (uint32_t i = 0; i < rounds; i++) {
+        line[15] = (uint8_t)('0' + i % 10);
+        sum = read_data_set(sum, (struct sent){line, sizeof line});
+    }
+    printf("%u\n", sum);
+}
+
 int main(int argc, char **argv) {
     if (argc != 3) return 2;
     uint32_t rounds = (uint32_t)strtoul(argv[2], NULL, 10);
@@ -181,6 +199,7 @@ int main(int argc, char **argv) {
         case 'c': moments(rounds); break;
         case 'p': closings(rounds); break;
         case 'l': records(rounds); break;
+        case 'd': data_sets(rounds); break;
         }
     }
     return 0;

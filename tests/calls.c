@@ -677,25 +677,45 @@ static int some_value(void) {
   return percent(40) ? PICK(edges) : (int)(any32() / 2) - (percent(50) ? 2147483647 : 0);
 }
 
-static void reading_of(unsigned meter) {
+static unsigned some_status(void) {
   static const unsigned statuses[] = {0, 0, 0, 2, 4, 6, 1, 3, 5, 7};
   static const unsigned far[] = {8, 9, 31, 32, 33, 128, 255};
-  line("reading %u %d %u %u", meter, some_value(), percent(92) ? PICK(statuses) : PICK(far), percent(94) ? below(32) : PICK(far));
+  return percent(92) ? PICK(statuses) : PICK(far);
 }
 
-static void reading_call(void) {
+static unsigned some_seq(void) {
+  static const unsigned far[] = {32, 33, 34, 64, 128, 255};
+  return percent(94) ? below(32) : PICK(far);
+}
+
+static unsigned some_meter(void) {
   static const unsigned far[] = {32, 33, 64, 128, 255};
-  unsigned meter = percent(95) ? below(METERS) : PICK(far);
+  return percent(95) ? below(METERS) : PICK(far);
+}
+
+static void reading_of(unsigned meter) { line("reading %u %d %u %u", meter, some_value(), some_status(), some_seq()); }
+
+static void reading_call(void) {
+  unsigned meter = some_meter();
   reading_of(meter);
   if (percent(30)) register_of(SERIAL, meter);
+}
+
+/* A reading, or the meter's own readout, in a block or without one. The data set is good. */
+static void heard_of(unsigned meter) {
+  switch (below(8)) {
+  case 0: line("readout %u %u %u 3 1.8.0(%06u.%03u*kWh)", meter, some_status(), some_seq(), below(1000000), below(1000)); break;
+  case 1: line("blockreadout %u %u %u 1 0242300371 16.7(-%u.%u*kW)", meter, some_status(), some_seq(), below(1000), below(10)); break;
+  default: reading_of(meter); break;
+  }
 }
 
 /* The clock set, and readings then, that of this meter the last. */
 static uint32_t heard_at(unsigned meter) {
   uint32_t time = percent(70) ? clock_now : some_time();
   set(time);
-  for (unsigned i = below(percent(20) ? 40 : 4); i > 0; i--) reading_of(below(METERS));
-  reading_of(meter);
+  for (unsigned i = below(percent(20) ? 40 : 4); i > 0; i--) heard_of(below(METERS));
+  heard_of(meter);
   return time;
 }
 
@@ -725,11 +745,327 @@ static void back_call(void) {
   set(time - back);
   show_meter(meter);
   switch (below(3)) {
-  case 0: reading_of(meter); break;
+  case 0: heard_of(meter); break;
   case 1: set(time + below(3) - 1); break;
   default: if (back > 0) samples(quiet(), (back < 4 ? back : 3) * 100 - below(2)); break;
   }
   show_meter(meter);
+}
+
+/* What meters send: data sets, and the blocks around them. Any byte may stand in a text, but the line's end. */
+
+struct text {
+  char bytes[1000];
+  size_t length;
+};
+
+static void add(struct text *t, unsigned byte) { t->bytes[t->length++] = (char)byte; }
+
+static void add_bytes(struct text *t, const char *bytes, size_t n) {
+  memcpy(t->bytes + t->length, bytes, n);
+  t->length += n;
+}
+
+static void add_all(struct text *t, const char *letters) { add_bytes(t, letters, strlen(letters)); }
+
+static void add_times(struct text *t, unsigned byte, size_t n) {
+  while (n-- > 0) add(t, byte);
+}
+
+static void put_in(struct text *t, size_t at, unsigned byte) {
+  memmove(t->bytes + at + 1, t->bytes + at, t->length - at);
+  t->bytes[at] = (char)byte;
+  t->length++;
+}
+
+static void take_out(struct text *t, size_t at) {
+  memmove(t->bytes + at, t->bytes + at + 1, t->length - at - 1);
+  t->length--;
+}
+
+/* The numbers of data sets. */
+
+static unsigned some_decimals(void) {
+  static const unsigned far[] = {10, 10, 11, 18, 19, 20, 32, 64, 128, 255};
+  return percent(94) ? below(10) : PICK(far);
+}
+
+/* Both ends of 32 bits, the numbers beside them, and what is 0 or little in 32 and in 64 bits. */
+static uint64_t some_size(void) {
+  static const uint64_t edges[] = {0, 1, 9, 10, 1000000000, 2147483640, 2147483646, 2147483647, 2147483647, 2147483648u, 2147483648u, 2147483649u, 2147483650u, 4294967295u,
+    4294967296u, 4294967303u, 6442450944u, 21474836470u, 21474836480u, 9223372036854775808u, 18446744073709551615u};
+  switch (below(5)) {
+  case 0: case 1: return PICK(edges);
+  case 2: return below(1000000);
+  case 3: return any32();
+  default: return percent(80) ? any32() / 2 : any32() * (uint64_t)any32();
+  }
+}
+
+/* A number with the point before its decimals: all of them, none of the zeros at the end, zeros more, or digits more of which one is not 0. */
+static void add_decimals(struct text *t, uint64_t number, unsigned decimals) {
+  char digits[40];
+  size_t n = (size_t)sprintf(digits, "%0*llu", (int)decimals + 1, (unsigned long long)number), point = n - decimals;
+  unsigned kind = below(8);
+  if (kind < 3)
+    while (n > point && digits[n - 1] == '0') n--;
+  add_bytes(t, digits, point);
+  if (n == point && kind < 6) return;
+  add(t, '.');
+  add_bytes(t, digits + point, n - point);
+  if (kind >= 6) add_times(t, '0', n == point ? from_to(1, 4) : below(4));
+  if (kind == 7) add(t, from_to('1', '9'));
+  if (kind == 7 && percent(50)) add_times(t, '0', from_to(1, 3));
+}
+
+/* The greatest whole part that fits with missing decimals, or one beside it. */
+static void add_whole(struct text *t, unsigned decimals) {
+  char digits[40];
+  uint32_t whole = 2147483648u;
+  for (unsigned i = 0; i < decimals; i++) whole /= 10;
+  add_bytes(t, digits, (size_t)sprintf(digits, "%u", whole + below(3) - (whole > 0)));
+  if (percent(20)) add_all(t, ".0");
+}
+
+static void add_digits(struct text *t, unsigned n) {
+  while (n-- > 0) add(t, percent(30) ? '0' : from_to('0', '9'));
+}
+
+/* Long numbers, and those that are little in 32 or 64 bits, or come to be so with nine missing decimals. */
+static void add_long(struct text *t, unsigned decimals) {
+  static const char *const turned[] = {"4294967296", "4294967303", "18446744073709551616", "18446744073709551623", "18446744071562067968", "36893488147419103239",
+    "79228162514264337593543950343", "18446744074", "18446744075", "36893488148"};
+  size_t from = t->length;
+  switch (below(4)) {
+  case 0: add_digits(t, from_to(1, 33)); break;
+  case 1: add_digits(t, from_to(1, 33)); add(t, '.'); add_digits(t, from_to(1, 20)); break;
+  case 2: add_all(t, PICK(turned)); break;
+  default:
+    add_all(t, PICK(turned));
+    if (decimals > 0 && t->length - from > decimals) put_in(t, t->length - decimals, '.');
+    break;
+  }
+}
+
+/* Texts that are no numbers, some of those that documents 002 and 004 print among them, and numbers with a letter in them. */
+static void add_no_number(struct text *t) {
+  static const char *const texts[] = {"+5", ".5", "5.", "-", ".", "-.", "-.5", "-5.", "--5", "5-", "5-5", "1.2.3", "1..2", "1.-2", "1,5", "1e3", "0x1", " 5", "5 ", "36F0", "A768",
+    "13-11-26", "08:37:15", "-.--", "M25", "B23", "325 1004562", "31-00;1", "132.0.1", "99999999999999999999999999999x", "9999999999999999999999999999999.", " ", "/", ":"};
+  static const char letters[] = "+-. ,:;xE";
+  size_t from = t->length;
+  if (percent(60)) { add_all(t, PICK(texts)); return; }
+  add_decimals(t, some_size(), below(5));
+  put_in(t, from + below((uint32_t)(t->length - from + 1)), (unsigned char)letters[below(sizeof letters - 1)]);
+}
+
+/* Zeros in front, or behind the point, to the longest value or beside it. */
+static void fill_up(struct text *t, size_t from) {
+  size_t to = from + from_to(31, 34);
+  int behind = percent(50) && memchr(t->bytes + from, '.', t->length - from) != NULL;
+  while (t->length < to) put_in(t, behind ? t->length : from, '0');
+}
+
+static void add_number(struct text *t, unsigned decimals) {
+  size_t from = t->length;
+  if (decimals > 9) decimals = below(10);
+  switch (below(12)) {
+  case 0: add_long(t, decimals); break;
+  case 1: add_no_number(t); return;
+  case 2: add_whole(t, decimals); break;
+  case 3: add_decimals(t, some_size(), below(10)); break;
+  default: add_decimals(t, some_size(), decimals); break;
+  }
+  if (percent(8)) put_in(t, from, '0');
+  if (percent(6)) fill_up(t, from);
+  if (percent(35)) put_in(t, from, '-');
+}
+
+/* Data sets. */
+
+static unsigned some_letter(int star) {
+  for (;;) {
+    unsigned letter = from_to(' ', '~');
+    if (strchr("()/!", (int)letter) == NULL && (star || letter != '*')) return letter;
+  }
+}
+
+static void add_address(struct text *t) {
+  static const char *const usual[] = {"1.8.0", "1.8.2*01", "32.7", "F.F", "C.1.0", "1-0:1.8.0", "0.0.128.4.10.255", "1.8.0 ", "", "*"};
+  static const unsigned long_ones[] = {15, 16, 16, 16, 16, 17, 17, 18};
+  if (percent(70)) { add_all(t, PICK(usual)); return; }
+  for (unsigned n = percent(60) ? PICK(long_ones) : below(16); n > 0; n--) add(t, some_letter(1));
+}
+
+static void add_unit(struct text *t) {
+  static const char *const usual[] = {"kWh", "kvarh", "V", "A", "Hz", "kV2h", " "};
+  static const unsigned long_ones[] = {15, 16, 16, 16, 16, 17, 17, 18};
+  if (percent(70)) { add_all(t, PICK(usual)); return; }
+  for (unsigned n = percent(60) ? PICK(long_ones) : from_to(1, 15); n > 0; n--) add(t, some_letter(0));
+}
+
+/* A byte that may not stand there, in place of one of the part that begins at `from`, or between. */
+static void spoil(struct text *t, size_t from) {
+  static const char bytes[] = "()/!*\x1f\x7f\x80\xff\t\r\0\2\3";
+  size_t at = from + below((uint32_t)(t->length - from + 1));
+  unsigned byte = (unsigned char)bytes[below(sizeof bytes - 1)];
+  if (at < t->length && percent(50)) t->bytes[at] = (char)byte;
+  else put_in(t, at, byte);
+}
+
+/* Brackets missing or too many, something else in place of the first or behind the last, and what is no data set at all. */
+static void break_set(struct text *t, size_t from) {
+  static const char *const others[] = {"ERR03", "!", "", "C.1.1()", "P.98()", "()", "(*V)", "(7*)", "(*)", "7", "1.6.0(0.000000*kW)(13-02-24 11:44)", "1.6.0(0.000000*kW) (13-02-24 11:44)"};
+  static const char behind[] = " )(*0\r!", instead[] = ")!/*[\177\200";
+  char *bracket = memchr(t->bytes + from, '(', t->length - from);
+  switch (below(7)) {
+  case 0: take_out(t, t->length - 1); break;
+  case 1: add(t, (unsigned char)behind[below(sizeof behind - 1)]); break;
+  case 2: add_all(t, "(07)"); break;
+  case 3: put_in(t, from, percent(50) ? '(' : ')'); break;
+  case 4: take_out(t, from + below((uint32_t)(t->length - from))); break;
+  case 5: *bracket = instead[below(sizeof instead - 1)]; break;
+  default: t->length = from; add_all(t, PICK(others)); break;
+  }
+}
+
+static void add_set(struct text *t, unsigned decimals) {
+  size_t first = t->length, from = first;
+  unsigned spoiled_part = percent(10) ? below(3) : 3;
+  add_address(t);
+  if (spoiled_part == 0) spoil(t, from);
+  add(t, '(');
+  from = t->length;
+  add_number(t, decimals);
+  if (spoiled_part == 1) spoil(t, from);
+  if (percent(60)) {
+    add(t, '*');
+    from = t->length;
+    add_unit(t);
+  }
+  if (spoiled_part == 2) spoil(t, from);
+  add(t, ')');
+  if (percent(6)) break_set(t, first);
+}
+
+/* Blocks. */
+
+enum { STX = 2, ETX = 3 };
+
+static unsigned check_byte(const struct text *block) {
+  unsigned check = 0;
+  for (size_t i = 1; i < block->length; i++) check ^= (unsigned char)block->bytes[i];
+  return check;
+}
+
+static void add_contents(struct text *t, const struct text *set) {
+  static const char *const usual[] = {"ERR03", "(0000)", "B0"};
+  unsigned byte;
+  switch (below(8)) {
+  case 0: break;
+  case 1: add_all(t, PICK(usual)); break;
+  case 2: byte = below(256); add_times(t, byte == ETX ? 0 : byte, 2); break;
+  case 3: for (unsigned n = from_to(1, 40); n > 0; n--) { byte = below(256); add(t, byte == ETX ? STX : byte); } break;
+  default: add_bytes(t, set->bytes, set->length); add_all(t, "\r\n!\r\n"); break;
+  }
+  if (percent(8)) put_in(t, from_to(1, (uint32_t)t->length), ETX);
+}
+
+/* One byte changed, taken out or put in anywhere; only the first bytes, or the last; a byte more behind it. */
+static void damage_block(struct text *t) {
+  size_t at = below((uint32_t)t->length);
+  switch (below(8)) {
+  case 0: t->bytes[at] = (char)(t->bytes[at] ^ 1 << below(8)); break;
+  case 1: t->bytes[at] = (char)(t->bytes[at] ^ from_to(1, 255)); break;
+  case 2: take_out(t, at); break;
+  case 3: put_in(t, at, percent(50) ? below(256) : from_to(STX, ETX)); break;
+  case 4: t->length = at; break;
+  case 5: while (at-- > 0) take_out(t, 0); break;
+  case 6: at = t->length - from_to(1, 3); t->bytes[at] = (char)(t->bytes[at] ^ from_to(1, 255)); break;
+  default: add(t, percent(30) ? ETX : percent(50) ? (unsigned char)t->bytes[t->length - 1] : below(256)); break;
+  }
+}
+
+/* The block around a data set, or around something else. Another byte than ETX may stand in its place, with its check byte. */
+static void make_block(struct text *t, const struct text *set) {
+  t->length = 0;
+  add(t, STX);
+  add_contents(t, set);
+  add(t, percent(4) ? below(256) : ETX);
+  add(t, check_byte(t));
+  if (percent(25)) damage_block(t);
+}
+
+/* In small letters, in capitals, or mixed; a few are no pairs of digits. */
+static void add_hex(struct text *t, const struct text *block) {
+  static const char wrong[] = "gGxX-:@`/.\t";
+  size_t from = t->length;
+  unsigned kind = below(3);
+  if (block->length == 0) add(t, '-');
+  for (size_t i = 0; i < 2 * block->length; i++) {
+    unsigned digit = (unsigned char)block->bytes[i / 2] >> (i % 2 ? 0 : 4) & 15;
+    add(t, (unsigned char)(kind == 0 || (kind == 1 && percent(50)) ? "0123456789abcdef" : "0123456789ABCDEF")[digit]);
+  }
+  if (percent(95)) return;
+  switch (below(4)) {
+  case 0: take_out(t, from + below((uint32_t)(t->length - from))); break;
+  case 1: t->length = from; break;
+  default: t->bytes[from + below((uint32_t)(t->length - from))] = wrong[below(sizeof wrong - 1)]; break;
+  }
+}
+
+/* The calls. Some are damaged by one letter, as other lines are. */
+
+static void put_text(struct text *t) {
+  if (percent(3)) t->length = edited(t->bytes, t->length);
+  put_line(t->bytes, t->length);
+}
+
+/* The text with a command and its numbers in front of it. */
+static void begin_text(struct text *t, const char *format, ...) {
+  va_list list;
+  va_start(list, format);
+  t->length = (size_t)vsnprintf(t->bytes, sizeof t->bytes, format, list);
+  va_end(list);
+}
+
+static void set_line(void) {
+  struct text t;
+  unsigned decimals = some_decimals();
+  begin_text(&t, "dataset %u ", decimals);
+  add_set(&t, decimals);
+  put_text(&t);
+}
+
+static void block_line(void) {
+  struct text t, set = {.length = 0}, block;
+  add_set(&set, below(10));
+  make_block(&block, &set);
+  begin_text(&t, "block ");
+  add_hex(&t, &block);
+  put_text(&t);
+}
+
+/* With a block or without; the data set in the block is the same, or another. */
+static void readout_line(unsigned meter, int with_block) {
+  struct text t, set = {.length = 0}, other = {.length = 0}, block;
+  unsigned decimals = some_decimals(), status = some_status(), seq = some_seq();
+  add_set(&set, decimals);
+  add_set(&other, decimals);
+  begin_text(&t, "%s %u %u %u %u ", with_block ? "blockreadout" : "readout", meter, status, seq, decimals);
+  if (with_block) {
+    make_block(&block, percent(80) ? &set : &other);
+    add_hex(&t, &block);
+    add(&t, ' ');
+  }
+  add_bytes(&t, set.bytes, set.length);
+  put_text(&t);
+}
+
+static void readout_call(int with_block) {
+  unsigned meter = percent(90) ? some_meter() : from_to(METERS, 255);
+  readout_line(meter, with_block);
+  if (percent(40)) register_of(SERIAL, meter);
+  else if (percent(10)) line("fleet");
 }
 
 /* The end of the clock. It is surely near: else the greatest COUNT would take minutes. */
@@ -800,14 +1136,28 @@ static void wrong_line(void) {
     "record 18446744073709551616", "profile x 0 1 2 3 4 5 6 7", "profile 4294967296 0 1 2 3 4 5 6 7", "profile -1 0 1 2 3 4 5 6 7", "profile 138 256 1 2 3 4 5 6 7",
     "profile 138 0 256 2 3 4 5 6 7", "profile 138 0 1 -2 3 4 5 6 7", "profile 138 0 1 2 x 4 5 6 7", "profile 138 0 1 2 3 256 5 6 7", "profile 138 0 1 2 3 4 +5 6 7",
     "profile 138 0 1 2 3 4 5 4294967296 7", "profile 138 0 1 2 3 4 5 6 256", "profile 138 0 1  3 4 5 6 7", "profile 138 256 256 256 256 256 256 256 256",
-    "profile 18446744073709551616 256 1 2 3 4 5 6 7", "profile 138 0 1 2 3 4 256 6 256\r"};
+    "profile 18446744073709551616 256 1 2 3 4 5 6 7", "profile 138 0 1 2 3 4 256 6 256\r", "dataset", "dataset ", "dataset 2", "dataset  2 (7)", "dataset  (7)", "dataset 256 (7)",
+    "dataset -0 (7)", "dataset +1 (7)", "dataset x (7)", "dataset 2.0 (7)", "dataset (7)", "dataset 2\t(7)", "dataset 2 ", "dataset 2 \r", "dataset 2\r", "dataset 2  ", "dataset 2  (7)",
+    "dataset 2 (7) ", "dataset 2 (7)\r", "dataset 2 (7)\r\r", "dataset 18446744073709551616 (7)", "datasets 2 (7)", "Dataset 2 (7)", "data set 2 (7)", "dataset 002 (7)", "dataset 10 ",
+    "readout", "readout ", "readout 0", "readout 0 0 0", "readout 0 0 0 0", "readout 0 0 0 0 ", "readout 0 0 0 0\r", "readout  0 0 0 0 (7)", "readout 0  0 0 0 (7)", "readout 0 0 0  (7)",
+    "readout 256 0 0 0 (7)", "readout 0 256 0 0 (7)", "readout 0 0 256 0 (7)", "readout 0 0 0 256 (7)", "readout -0 0 0 0 (7)", "readout 0 -1 0 0 (7)", "readout 0 0 +0 0 (7)", "readout 0 0 0 x (7)",
+    "readout 256 256 256 256 (7)", "readout 0 256 256 256 (7)", "readout 0 0 256 256 (7)", "readout 0 0 0 18446744073709551616 (7)", "readouts 0 0 0 0 (7)", "readout 0 7 0 0 0 (7)",
+    "readout 0 0 0 (7)", "readout 0 0 0 0  (7)", "readout 00 0000 000 00 (7)", "readout 0 5 0 0 0",
+    "block", "block ", "block  ", "block  020303", "block 020303 ", "block 02 0303", "block 020303 (7)", "block 2", "block 02030", "block 02030g", "block g20303", "block 0x020303", "block --",
+    "block -02", "block 02-", "block - ", "block -", "block -\r", "block 020303\r", "block 020303\r\r", "block 02:03:03", "blocks 020303", "block +2", "block /0", "block :0", "block @0", "block G0", "block `0",
+    "block 0/", "block 0:", "block 0@", "block 0G", "block 0`", "block 0g", "block 020300", "block 0203", "block 02", "block 03", "block 02030303", "block 02030300", "block 03030303", "block 02020301",
+    "blockreadout", "blockreadout ", "blockreadout 0 0 0 0", "blockreadout 0 0 0 0 020303", "blockreadout 0 0 0 0 020303 ", "blockreadout 0 0 0 0 020303\r", "blockreadout 0 0 0 0 (7)",
+    "blockreadout 0 0 0 0  (7)", "blockreadout 0 0 0 0 02030 (7)", "blockreadout 0 0 0 0 x (7)", "blockreadout 256 0 0 0 x (7)", "blockreadout 0 256 0 0 x (7)", "blockreadout 0 0 256 0 x (7)",
+    "blockreadout 0 0 0 256 x (7)", "blockreadout 0 0 0 256 020303 (7)", "blockreadout 0 0 0 0 - (7)", "blockreadout 0 0 0 0 - ", "blockreadout 0 0 0 0 020303  (7)", "blockreadout 0 0 0 0 020303 (7) ",
+    "blockreadouts 0 0 0 0 020303 (7)", "block readout 0 0 0 0 020303 (7)", "blockreadout x x x x x (7)", "blockreadout  0 0 0 020303 (7)", "blockreadout -0 0 0 0 020303 (7)"};
   const char *text = PICK(lines);
   put_line(text, strlen(text));
 }
 
 /* A line filled up by zeros before its number, or by more of a comment, to about 255 bytes, and far longer ones. Some end with a carriage return. */
 static void long_line(void) {
-  static const char *const fronts[] = {"date ", "set ", "#", "register 89 ", "reading 0 -", "sample 0 ", "x", "start ", "record ", "record 0 ", "profile "};
+  static const char *const fronts[] = {"date ", "set ", "#", "register 89 ", "reading 0 -", "sample 0 ", "x", "start ", "record ", "record 0 ", "profile ", "dataset 0 ", "dataset 0 (",
+    "dataset ", "readout 0 0 0 0 ", "readout ", "block ", "block 02", "blockreadout 0 0 0 0 ", "blockreadout 0 0 0 0 020303 "};
   static char text[80000];
   size_t length = percent(90) ? from_to(253, 258) : percent(80) ? from_to(259, 600) : from_to(60000, 79999);
   const char *front = PICK(fronts);
@@ -835,7 +1185,7 @@ static void padded_profile(void) {
 }
 
 static void odd_line(void) {
-  switch (below(13)) {
+  switch (below(16)) {
   case 0: put_line("", 0); break;
   case 1: put_line("# a comment", percent(50) ? 11 : 1); break;
   case 2: long_line(); break;
@@ -848,7 +1198,7 @@ static void odd_line(void) {
 }
 
 static void some_call(void) {
-  unsigned n = below(1000);
+  unsigned n = below(1140);
   if (n < 200) samples(some_bits(), 1);
   else if (n < 320) burst_call();
   else if (n < 400) run_call();
@@ -867,7 +1217,11 @@ static void some_call(void) {
   else if (n < 930) line("date %u", percent(70) ? some_time() : any32());
   else if (n < 950) line("fleet");
   else if (n < 998) odd_line();
-  else begin(some_time());
+  else if (n < 1000) begin(some_time());
+  else if (n < 1060) set_line();
+  else if (n < 1090) readout_call(0);
+  else if (n < 1110) block_line();
+  else readout_call(1);
 }
 
 static void some_calls(unsigned long until) {

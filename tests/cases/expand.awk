@@ -18,7 +18,7 @@ function flush() {
   print answer > (out "/" n ".answers")
   if (looks) {
     print waiting > (out "/" n ".looks")
-    if (waiting ~ /^(profile|start|sample|set|reading|reset)/ && !pulsing) printf "%s", look > (out "/" n ".looks")
+    if (waiting ~ /^(profile|start|sample|set|reading|readout|blockreadout|reset)/ && !pulsing) printf "%s", look > (out "/" n ".looks")
   }
   waiting = ""
 }

@@ -87,6 +87,13 @@ static void answer_fleet(void) {
            (long long)f.sum);
 }
 
+static void answer_value(struct sent line, uint32_t decimals) {
+    struct value value;
+    uint32_t refusal = peer_data_set(line, decimals, &value);
+    if (refusal != 0) answer(refusal);
+    else printf("value %u %u %d\n", value.offset, value.length, value.number);
+}
+
 /* ---- The lines. "Words are separated by one blank, numbers are decimal, and only VALUE may be negative. A line has at most 255 bytes." */
 
 struct word {
@@ -97,6 +104,7 @@ struct word {
 static unsigned long line_number;
 static struct word word[LONGEST_LINE + 1];
 static unsigned words;
+static const char *line_end;
 
 static void wrong(const char *what) { printf("error: line %lu: %s\n", line_number, what); }
 
@@ -111,6 +119,7 @@ static bool wrong_number(const char *name, long long least, long long most) {
 
 static void split(const char *line, size_t length) {
     words = 0;
+    line_end = line + length;
     word[words++] = (struct word){line, 0};
     for (size_t i = 0; i < length; i++) {
         if (line[i] == ' ') word[words++] = (struct word){line + i + 1, 0};
@@ -147,6 +156,37 @@ static bool value(unsigned k, int32_t *to) {
     return good || wrong_number("VALUE", INT32_MIN, INT32_MAX);
 }
 
+/* From a word to the end of the line, with the blanks in it: "TEXT is the rest of the line". */
+static struct sent text(unsigned k) { return (struct sent){(const uint8_t *)word[k].at, (size_t)(line_end - word[k].at)}; }
+
+/* The value of a hexadecimal digit, or 16. */
+static uint8_t digit_of(char letter) {
+    if (letter >= '0' && letter <= '9') return (uint8_t)(letter - '0');
+    if (letter >= 'a' && letter <= 'f') return (uint8_t)(letter - 'a' + 10);
+    if (letter >= 'A' && letter <= 'F') return (uint8_t)(letter - 'A' + 10);
+    return 16;
+}
+
+/* One pair of digits or more, or a minus for no bytes. */
+static bool pairs_in(struct word w, uint8_t *bytes, size_t *count) {
+    *count = 0;
+    if (w.length == 1 && w.at[0] == '-') return true;
+    for (size_t i = 0; i + 1 < w.length; i += 2) {
+        uint8_t high = digit_of(w.at[i]), low = digit_of(w.at[i + 1]);
+        if (high > 15 || low > 15) return false;
+        bytes[(*count)++] = (uint8_t)(high << 4 | low);
+    }
+    return w.length > 0 && w.length % 2 == 0;
+}
+
+static bool hex(unsigned k, struct sent *block) {
+    static uint8_t bytes[LONGEST_LINE / 2];
+    block->bytes = bytes;
+    if (pairs_in(word[k], bytes, &block->length)) return true;
+    wrong("HEX is not pairs of hexadecimal digits or -");
+    return false;
+}
+
 static void timed_line(void) {
     uint32_t time;
     if (words != 2) wrong_words("needs SECONDS");
@@ -168,6 +208,33 @@ static void reading_line(void) {
     if (words != 5) wrong_words("needs METER VALUE STATUS SEQ");
     else if (number(1, "METER", 255, &meter) && value(2, &v) && number(3, "STATUS", 255, &status) && number(4, "SEQ", 255, &seq))
         answer(peer_reading(&recorder, meter, v, status, seq));
+}
+
+static void data_set_line(void) {
+    uint32_t decimals;
+    if (words < 3) wrong_words("needs DECIMALS TEXT");
+    else if (number(1, "DECIMALS", 255, &decimals)) answer_value(text(2), decimals);
+}
+
+static void readout_line(void) {
+    uint32_t meter, status, seq, decimals;
+    if (words < 6) wrong_words("needs METER STATUS SEQ DECIMALS TEXT");
+    else if (number(1, "METER", 255, &meter) && number(2, "STATUS", 255, &status) && number(3, "SEQ", 255, &seq) && number(4, "DECIMALS", 255, &decimals))
+        answer(peer_readout(&recorder, meter, status, seq, decimals, text(5)));
+}
+
+static void block_line(void) {
+    struct sent block;
+    if (words != 2) wrong_words("needs HEX");
+    else if (hex(1, &block)) answer(peer_block(block));
+}
+
+static void block_readout_line(void) {
+    uint32_t meter, status, seq, decimals;
+    struct sent block;
+    if (words < 7) wrong_words("needs METER STATUS SEQ DECIMALS HEX TEXT");
+    else if (number(1, "METER", 255, &meter) && number(2, "STATUS", 255, &status) && number(3, "SEQ", 255, &seq) && number(4, "DECIMALS", 255, &decimals) && hex(5, &block))
+        answer(peer_block_readout(&recorder, meter, status, seq, decimals, block, text(6)));
 }
 
 static void register_line(void) {
@@ -224,6 +291,10 @@ static void answer_line(const char *line, size_t length) {
     if (command("start") || command("set") || command("date")) timed_line();
     else if (command("sample")) sample_line();
     else if (command("reading")) reading_line();
+    else if (command("dataset")) data_set_line();
+    else if (command("readout")) readout_line();
+    else if (command("block")) block_line();
+    else if (command("blockreadout")) block_readout_line();
     else if (command("register")) register_line();
     else if (command("profile")) profile_line();
     else if (command("record")) record_line();

@@ -409,7 +409,7 @@ uint32_t peer_samples(struct recorder *r, struct lent lent, const uint16_t *bits
     return 0;
 }
 
-/* ---- Other calls. */
+/* ---- Readings. */
 
 static uint32_t limit_of(const struct recorder *r, uint32_t meter) { return u16_at(r->config.image + LIMIT_AT + 2 * meter); }
 
@@ -420,6 +420,123 @@ uint32_t peer_reading(struct recorder *r, uint32_t meter, int32_t value, uint32_
     r->meters[meter] = (struct meter){1, (uint8_t)status, (uint8_t)seq, r->clock, value};
     return 0;
 }
+
+/* ---- The meters' own readout. */
+
+enum { STX = 2, ETX = 3 };
+enum { LONGEST_ADDRESS = 16, LONGEST_VALUE = 32, LONGEST_UNIT = 16, MOST_DECIMALS = 9 };
+
+/* Document 02: "printable ASCII without brackets, slash and exclamation mark, and without a star in value or unit". From the blank to the tilde, sixteen to a row. */
+enum { IN_ADDRESS = 1, IN_TEXT = 2 }; /* a text is a value or a unit */
+static const uint8_t letters[256] = {
+    [0x20] = 3, 0, 3, 3, 3, 3, 3, 3, 0, 0, 1, 3, 3, 3, 3, 0, /* all but ! ( ) /, and the star */
+    3, 3, 3, 3, 3, 3, 3, 3, 3, 3, 3, 3, 3, 3, 3, 3,
+    3, 3, 3, 3, 3, 3, 3, 3, 3, 3, 3, 3, 3, 3, 3, 3,
+    3, 3, 3, 3, 3, 3, 3, 3, 3, 3, 3, 3, 3, 3, 3, 3,
+    3, 3, 3, 3, 3, 3, 3, 3, 3, 3, 3, 3, 3, 3, 3, 3,
+    3, 3, 3, 3, 3, 3, 3, 3, 3, 3, 3, 3, 3, 3, 3, 0
+};
+
+/* Where the letters end that begin here. The line ends with a bracket, which is no letter: so this, and each loop below, ends there at the latest. */
+static const uint8_t *letters_end(const uint8_t *p, uint8_t kind) {
+    while ((letters[*p] & kind) != 0) p++;
+    return p;
+}
+
+static bool from_1_to(ptrdiff_t most, const uint8_t *first, const uint8_t *end) { return first != end && end - first <= most; }
+
+/* The number that a value begins with, as far as it goes. Its letters are all letters of a value, so that these need not be gone through twice. */
+struct number {
+    const uint8_t *end;
+    uint64_t size;    /* of the digits that count, if they are not too many */
+    uint32_t missing; /* decimals */
+    bool minus, good, too_many;
+};
+
+static bool is_digit(uint8_t letter) { return (uint32_t)letter - '0' < 10; }
+
+static const uint8_t *zeros_end(const uint8_t *p) {
+    while (*p == '0') p++;
+    return p;
+}
+
+/* Document 02: "A number is an optional minus, digits, and perhaps a point with digits on both sides; missing decimals count as zeros ... 18 NOT A NUMBER (also for a non-zero
+   digit past the stated decimals, or decimals above 9)". Eleven digits before the point, without zeros in front, are too many for 32 bits; ten, and nine decimals, fit 64. */
+static struct number number_at(const uint8_t *p, uint32_t decimals) {
+    struct number n = {.minus = *p == '-', .good = decimals <= MOST_DECIMALS};
+    const uint8_t *first = p + n.minus, *whole = zeros_end(first);
+    for (p = whole; is_digit(*p); p++) n.size = n.size * 10 + (*p - '0');
+    n.good &= p != first;
+    n.too_many = p - whole > 10;
+    if (*p == '.') {
+        first = ++p;
+        for (; decimals > 0 && is_digit(*p); p++, decimals--) n.size = n.size * 10 + (*p - '0');
+        p = zeros_end(p);
+        n.good &= p != first;
+    }
+    n.missing = decimals;
+    n.end = p;
+    return n;
+}
+
+/* Document 02: "19 DOES NOT FIT 32 BITS". */
+static uint32_t whole_number(const struct number *n, int32_t *whole) {
+    static const uint32_t powers[MOST_DECIMALS + 1] = {1, 10, 100, 1000, 10000, 100000, 1000000, 10000000, 100000000, 1000000000};
+    uint64_t size;
+    if (!n->good) return NOT_A_NUMBER;
+    size = n->size * powers[n->missing];
+    if (n->too_many || size > (uint64_t)INT32_MAX + n->minus) return DOES_NOT_FIT;
+    *whole = (int32_t)(n->minus ? -(int64_t)size : (int64_t)size);
+    return 0;
+}
+
+/* Document 02: "an address, then the value and perhaps a star and a unit in brackets ... Address at most 16 bytes, value 1 to 32, unit 1 to 16". */
+uint32_t peer_data_set(struct sent line, uint32_t decimals, struct value *value) {
+    const uint8_t *first, *end, *last;
+    struct number n;
+    int32_t number;
+    uint32_t refusal;
+    if (line.length == 0 || line.bytes[line.length - 1] != ')') return LINE;
+    first = letters_end(line.bytes, IN_ADDRESS);
+    if (*first != '(' || first - line.bytes > LONGEST_ADDRESS) return LINE;
+    n = number_at(++first, decimals);
+    last = end = letters_end(n.end, IN_TEXT);
+    if (!from_1_to(LONGEST_VALUE, first, end)) return LINE;
+    if (*end == '*') {
+        last = letters_end(end + 1, IN_TEXT);
+        if (!from_1_to(LONGEST_UNIT, end + 1, last)) return LINE;
+    }
+    if (last != line.bytes + line.length - 1) return LINE;
+    n.good &= end == n.end; /* not so with a digit past the decimals that is not 0 */
+    refusal = whole_number(&n, &number);
+    if (refusal == 0) *value = (struct value){(uint32_t)(first - line.bytes), (uint32_t)(end - first), number};
+    return refusal;
+}
+
+/* Document 02: "STX, bytes other than ETX, ETX, and as last byte the exclusive or of everything after STX up to ETX included". */
+uint32_t peer_block(struct sent block) {
+    uint8_t check = ETX;
+    if (block.length < 3 || block.bytes[0] != STX || block.bytes[block.length - 2] != ETX) return BLOCK;
+    for (size_t i = 1; i < block.length - 2; i++) {
+        if (block.bytes[i] == ETX) return BLOCK;
+        check ^= block.bytes[i];
+    }
+    return check == block.bytes[block.length - 1] ? 0 : BLOCK;
+}
+
+/* Document 02: "Refusals, in this order: 16 BLOCK, 17 LINE, 18 NOT A NUMBER ..., 19 DOES NOT FIT 32 BITS, then those of a reading." */
+uint32_t peer_readout(struct recorder *r, uint32_t meter, uint32_t status, uint32_t seq, uint32_t decimals, struct sent line) {
+    struct value value;
+    uint32_t refusal = peer_data_set(line, decimals, &value);
+    return refusal != 0 ? refusal : peer_reading(r, meter, value.number, status, seq);
+}
+
+uint32_t peer_block_readout(struct recorder *r, uint32_t meter, uint32_t status, uint32_t seq, uint32_t decimals, struct sent block, struct sent line) {
+    uint32_t refusal = peer_block(block);
+    return refusal != 0 ? refusal : peer_readout(r, meter, status, seq, decimals, line);
+}
+
+/* ---- Clock set and billing reset. */
 
 /* "A clock set closes the period at the old time as short, sets the clock and starts second and period anew." */
 uint32_t peer_set_clock(struct recorder *r, struct lent lent, uint32_t time) {

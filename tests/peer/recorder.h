@@ -1,5 +1,5 @@
 /*
- * Another recorder: the rules of document 01, of the change requests of document 02 that have landed (1) and the decided points, in plain C. It shares no code and no
+ * Another recorder: the rules of document 01, of the change requests of document 02 that have landed (1 to 4) and the decided points, in plain C. It shares no code and no
  * definition with the crates.
  *
  * It serves all comparisons: the program hall is compared with it on random calls, on stored answers and on the cases (hall.c beside this file reads the lines), the C
@@ -16,7 +16,8 @@ enum { INPUTS = 16, SUMS = 8, FUNCTIONS = 4, SLOTS = 16, CHOSEN = 8, METERS = 32
 enum { DAILY = 32, WINDOWS = 4, WEEKLY = 16, SEASONS = 8, HOLIDAYS = 32, RULES = 16, BILLS = 16 };
 
 /* "Numbers of refusal." 9, NO DATE, is never given: each time of 32 bits has a date. */
-enum { LENGTH = 1, MARK, VERSION, VALUE, CLOCK_END, FULL, NO_METER, NOT_FITTED, READING = 10, NO_GROUP, NO_REGISTER, NO_ROOM, PROFILE_BUFFER, NO_RECORD };
+enum { LENGTH = 1, MARK, VERSION, VALUE, CLOCK_END, FULL, NO_METER, NOT_FITTED, READING = 10, NO_GROUP, NO_REGISTER, NO_ROOM, PROFILE_BUFFER, NO_RECORD, BLOCK, LINE,
+       NOT_A_NUMBER, DOES_NOT_FIT };
 
 /* What is fixed: the image, and what samples ask for at every turn, worked out of it once. */
 struct config {
@@ -74,6 +75,18 @@ struct fleet {
     int64_t sum;
 };
 
+/* What a meter sent: a line, which is one data set without a line end, or the block around its lines. */
+struct sent {
+    const uint8_t *bytes;
+    size_t length;
+};
+
+/* The value of a data set: where it stands in its line, and its whole number with the stated decimals. */
+struct value {
+    uint32_t offset, length;
+    int32_t number;
+};
+
 /* 0, or refusal x 65,536 + offset. */
 uint32_t peer_image_check(const uint8_t *image, size_t length);
 
@@ -92,6 +105,18 @@ uint32_t peer_samples(struct recorder *r, struct lent lent, const uint16_t *bits
 
 /* The refusal, or 0. */
 uint32_t peer_reading(struct recorder *r, uint32_t meter, int32_t value, uint32_t status, uint32_t seq);
+
+/* Reads a data set. The refusal, or 0; only with 0 is the value given. */
+uint32_t peer_data_set(struct sent line, uint32_t decimals, struct value *value);
+
+/* The refusal, or 0. */
+uint32_t peer_block(struct sent block);
+
+/* A data set booked as a reading. The refusal, or 0. */
+uint32_t peer_readout(struct recorder *r, uint32_t meter, uint32_t status, uint32_t seq, uint32_t decimals, struct sent line);
+
+/* The same after the check of a block. That the line stands in the block is not asked. The refusal, or 0. */
+uint32_t peer_block_readout(struct recorder *r, uint32_t meter, uint32_t status, uint32_t seq, uint32_t decimals, struct sent block, struct sent line);
 
 /* The refusal, or 0. */
 uint32_t peer_set_clock(struct recorder *r, struct lent lent, uint32_t time);

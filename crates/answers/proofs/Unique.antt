@@ -7,6 +7,9 @@ use Rattle.answers.proofs.start_line.Reads as start-line-reads
 use Rattle.answers.proofs.samples_line.Reads as samples-line-reads
 use Rattle.answers.proofs.set_line.Reads as set-line-reads
 use Rattle.answers.proofs.reading_line.Reads as reading-line-reads
+use Rattle.answers.proofs.readout_line.Reads as readout-line-reads
+use Rattle.answers.proofs.block_line.Reads as block-line-reads
+use Rattle.answers.proofs.dataset_line.Reads as dataset-line-reads
 use Rattle.answers.proofs.register_line.Reads as register-line-reads
 use Rattle.answers.proofs.record_line.Reads as record-line-reads
 use Rattle.answers.proofs.image_part.Reads as image-part-reads
@@ -31,6 +34,15 @@ set-line κs a x y e f p q = p ∙ sym q
 
 pub reading-line : OneResult reading-line-reads.Post
 reading-line κs a x y e f p q = p ∙ sym q
+
+pub readout-line : OneResult readout-line-reads.Post
+readout-line κs a x y e f p q = p ∙ sym q
+
+pub block-line : OneResult block-line-reads.Post
+block-line κs a x y e f p q = p ∙ sym q
+
+pub dataset-line : OneResult dataset-line-reads.Post
+dataset-line κs a x y e f p q = p ∙ sym q
 
 pub register-line : OneResult register-line-reads.Post
 register-line κs a x y e f p q = p ∙ sym q

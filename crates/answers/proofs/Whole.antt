@@ -20,13 +20,14 @@ use Rattle.lines.specs.declared.Parameter.{Parameter}
 use Rattle.lines.specs.declared.Parameter.the-variants as parameter
 use Rattle.calendar.specs.declared.Moment.{Moment}
 use Rattle.registers.specs.declared.fleet.Fleet.{Fleet}
+use Rattle.readout.specs.DataSets.{Place}
 use Rattle.image.specs.Answers.{imageAnswer}
 use Rattle.answers.specs.declared.Text.{Text}
 use Rattle.answers.specs.Texts.{withByte, withBytes, asText}
 use Rattle.laws.specs.Decimals.{decimalIn}
 use Rattle.answers.specs.Numbers.{decimalOf, decimalSigned, hexOf}
 use Rattle.answers.specs.Errors.{wordsText, numbersText, mistakeText}
-use Rattle.answers.specs.Answers.{lineEnd, okLine, refusedLine, refusedAt, refusedAfter, startLine, registerLine, recordLine, imagePart, weekdayName, dateLine, fleetLine, errorLine}
+use Rattle.answers.specs.Answers.{lineEnd, okLine, refusedLine, refusedAt, refusedAfter, startLine, registerLine, recordLine, imagePart, blockLine, valueLine, dataSetLine, weekdayName, dateLine, fleetLine, errorLine}
 use Rattle.answers.specs.Laws.{TextIs, Fits, NoneCut, EmptyLine, partsFrom, PartsJoin}
 
 -- letters with zeros behind them
@@ -101,6 +102,10 @@ words-short command.Date = omega arith
 words-short command.Fleet = omega arith
 words-short command.Profile = omega arith
 words-short command.Record = omega arith
+words-short command.Dataset = omega arith
+words-short command.Readout = omega arith
+words-short command.Block = omega arith
+words-short command.Blockreadout = omega arith
 
 numbers-short : (p : Parameter) → length (numbersText p) ≤ 60
 unfolding numbersText letters
@@ -116,6 +121,8 @@ numbers-short parameter.Number = omega arith
 numbers-short parameter.Room = omega arith
 numbers-short parameter.Length = omega arith
 numbers-short parameter.Index = omega arith
+numbers-short parameter.Decimals = omega arith
+numbers-short parameter.Hex = omega arith
 numbers-short (parameter.Slot k) = simp length-append (omega (arith, digits k))
 
 mistake-short : (m : Mistake) → length (mistakeText m) ≤ 60
@@ -161,6 +168,16 @@ image-short (given u) image from =
     (λ e. simp (length-append, hex-length, length-take) (omega arith)) (λ e. simp (length-append, hex-length, length-take) (omega arith))
 image-short (refused n offset) image from = if-cases Fits (eqb from 0) (λ e. at-short n offset) (λ e. omega arith)
 
+block-short : (a : Answer (Unit {0})) → Fits (blockLine a)
+block-short (given u) = ok-short
+block-short (refused n offset) = refused-short n
+
+data-set-short : (p : Answer Place) (z : Answer ℤ) → Fits (dataSetLine p z)
+unfolding valueLine letters
+data-set-short (given p) (given z) = simp length-append (omega (arith, digits (p .start), digits (p .length), sign z))
+data-set-short (given p) (refused n offset) = refused-short n
+data-set-short (refused n offset) z = refused-short n
+
 date-short : (a : Answer Moment) → Fits (dateLine a)
 unfolding dateLine letters
 date-short (given m) = simp length-append (omega (arith, name (m .weekday)))
@@ -184,6 +201,8 @@ none-cut =
       register = register-short;
       profile-record = record-short;
       image = image-short;
+      block = block-short;
+      data-set = data-set-short;
       date = date-short;
       fleet = fleet-short;
       error = error-short;

@@ -2,6 +2,7 @@
 use mathlib.Core.List.{List, [], _∷_, _++_}
 use Prim.Native.Nat.{ℕ, _+_, _/_}
 use lib.Dec.{eqb, leb}
+use lib.IntN.{ℤ}
 use lib.ListN.{length, getD, take, drop}
 use Rattle.laws.specs.If.{if_then_else_}
 use Rattle.laws.specs.Answers.{Answer, given, refused}
@@ -9,6 +10,7 @@ use Rattle.laws.specs.Letters.{letters}
 use Rattle.lines.specs.declared.Mistake.{Mistake}
 use Rattle.calendar.specs.declared.Moment.{Moment}
 use Rattle.registers.specs.declared.fleet.Fleet.{Fleet}
+use Rattle.readout.specs.DataSets.{Place}
 use Rattle.answers.specs.Errors.{mistakeText}
 use Rattle.answers.specs.Numbers.{decimalOf, decimalSigned, twoDigits, hexOf}
 
@@ -68,6 +70,21 @@ endAfter image to = if leb (length image) to then lineEnd else []
 unfoldable pub imagePart : Answer (Unit {0}) → List ℕ → ℕ → List ℕ
 imagePart (given u) image from = hexOf (take 100 (drop from image)) ++ endAfter image (from + 100)
 imagePart (refused n offset) image from = if eqb from 0 then refusedAt n offset else []
+
+-- the line of the check of a block
+abbrev pub blockLine : Answer (Unit {0}) → List ℕ
+blockLine (given u) = okLine
+blockLine (refused n offset) = refusedLine n
+
+-- `value OFFSET LENGTH NUMBER`
+unfoldable pub valueLine : Place → ℤ → List ℕ
+valueLine p z = letters "value " ++ (decimalOf (p .start) ++ (letters " " ++ (decimalOf (p .length) ++ (letters " " ++ (decimalSigned z ++ lineEnd)))))
+
+-- the line of a data set: where its value stands and the whole number of it, or the refusal
+abbrev pub dataSetLine : Answer Place → Answer ℤ → List ℕ
+dataSetLine (given p) (given z) = valueLine p z
+dataSetLine (given p) (refused n offset) = refusedLine n
+dataSetLine (refused n offset) number = refusedLine n
 
 -- the weekdays before Sunday
 abbrev pub weekdayNames : List (List ℕ)

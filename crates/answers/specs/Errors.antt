@@ -23,8 +23,12 @@ wordsText command.Date = letters "date needs SECONDS"
 wordsText command.Fleet = letters "fleet stands alone"
 wordsText command.Profile = letters "profile needs LENGTH S0 S1 S2 S3 S4 S5 S6 S7"
 wordsText command.Record = letters "record needs INDEX or INDEX ROOM"
+wordsText command.Dataset = letters "dataset needs DECIMALS TEXT"
+wordsText command.Readout = letters "readout needs METER STATUS SEQ DECIMALS TEXT"
+wordsText command.Block = letters "block needs HEX"
+wordsText command.Blockreadout = letters "blockreadout needs METER STATUS SEQ DECIMALS HEX TEXT"
 
--- the numbers that a parameter can be
+-- what a parameter can be
 unfoldable pub numbersText : Parameter → List ℕ
 numbersText parameter.Seconds = letters "SECONDS is not a number from 0 to 4294967295"
 numbersText parameter.Bits = letters "BITS is not a number from 0 to 65535"
@@ -38,6 +42,8 @@ numbersText parameter.Number = letters "NUMBER is not a number from 0 to 4294967
 numbersText parameter.Room = letters "ROOM is not a number from 0 to 4294967295"
 numbersText parameter.Length = letters "LENGTH is not a number from 0 to 4294967295"
 numbersText parameter.Index = letters "INDEX is not a number from 0 to 4294967295"
+numbersText parameter.Decimals = letters "DECIMALS is not a number from 0 to 255"
+numbersText parameter.Hex = letters "HEX is not pairs of hexadecimal digits or -"
 numbersText (parameter.Slot k) = letters "S" ++ (decimalOf k ++ letters " is not a number from 0 to 255")
 
 -- what is wrong with a line

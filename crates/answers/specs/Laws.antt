@@ -2,15 +2,17 @@
 use mathlib.Core.Path.{_≡_}
 use mathlib.Core.List.{List, [], _++_}
 use Prim.Native.Nat.{ℕ, zero, suc, _-_, _*_, _≤_}
+use lib.IntN.{ℤ}
 use lib.ListN.{length, replicate}
 use Rattle.laws.specs.Answers.{Answer}
 use Rattle.laws.specs.Letters.{letters}
 use Rattle.lines.specs.declared.Mistake.{Mistake}
 use Rattle.calendar.specs.declared.Moment.{Moment}
 use Rattle.image.specs.Answers.{imageAnswer}
+use Rattle.readout.specs.DataSets.{Place}
 use Rattle.registers.specs.declared.fleet.Fleet.{Fleet}
 use Rattle.answers.specs.Texts.{asText}
-use Rattle.answers.specs.Answers.{lineEnd, numberLine, samplesLine, startLine, registerLine, recordLine, imageLine, imagePart, dateLine, fleetLine, errorLine}
+use Rattle.answers.specs.Answers.{lineEnd, numberLine, samplesLine, startLine, registerLine, recordLine, imageLine, imagePart, blockLine, dataSetLine, dateLine, fleetLine, errorLine}
 
 -- a text of at most 256 letters is the letters, with zeros behind them
 abbrev pub TextIs : Type 0
@@ -28,6 +30,8 @@ pub record NoneCut : Type 0 where
   pub register : (a : Answer ℕ) (bytes : List ℕ) → length bytes ≡ 13 → Fits (registerLine a bytes)
   pub profile-record : (a : Answer (Unit {0})) (bytes : List ℕ) → length bytes ≡ 69 → Fits (recordLine a bytes)
   pub image : (a : Answer (Unit {0})) (image : List ℕ) (from : ℕ) → Fits (imagePart a image from)
+  pub block : (a : Answer (Unit {0})) → Fits (blockLine a)
+  pub data-set : (place : Answer Place) (number : Answer ℤ) → Fits (dataSetLine place number)
   pub date : (a : Answer Moment) → Fits (dateLine a)
   pub fleet : (f : Fleet) → Fits (fleetLine f)
   pub error : (n : ℕ) (m : Mistake) → Fits (errorLine n m)

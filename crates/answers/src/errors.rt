@@ -24,7 +24,11 @@ fn with_words(text: Text, command: Command) -> Text
         date needs SECONDS\n\
         fleet stands alone\n\
         profile needs LENGTH S0 S1 S2 S3 S4 S5 S6 S7\n\
-        record needs INDEX or INDEX ROOM";
+        record needs INDEX or INDEX ROOM\n\
+        dataset needs DECIMALS TEXT\n\
+        readout needs METER STATUS SEQ DECIMALS TEXT\n\
+        block needs HEX\n\
+        blockreadout needs METER STATUS SEQ DECIMALS HEX TEXT";
     match command {
         Command::Start => with_row(text, needs, 0),
         Command::Sample => with_row(text, needs, 1),
@@ -37,6 +41,10 @@ fn with_words(text: Text, command: Command) -> Text
         Command::Fleet => with_row(text, needs, 8),
         Command::Profile => with_row(text, needs, 9),
         Command::Record => with_row(text, needs, 10),
+        Command::Dataset => with_row(text, needs, 11),
+        Command::Readout => with_row(text, needs, 12),
+        Command::Block => with_row(text, needs, 13),
+        Command::Blockreadout => with_row(text, needs, 14),
     }
 }
 
@@ -56,6 +64,8 @@ fn with_numbers(text: Text, parameter: Parameter) -> Text
         ROOM is not a number from 0 to 4294967295\n\
         LENGTH is not a number from 0 to 4294967295\n\
         INDEX is not a number from 0 to 4294967295\n\
+        DECIMALS is not a number from 0 to 255\n\
+        HEX is not pairs of hexadecimal digits or -\n\
         \x20is not a number from 0 to 255";
     match parameter {
         Parameter::Seconds => with_row(text, limits, 0),
@@ -70,7 +80,9 @@ fn with_numbers(text: Text, parameter: Parameter) -> Text
         Parameter::Room => with_row(text, limits, 9),
         Parameter::Length => with_row(text, limits, 10),
         Parameter::Index => with_row(text, limits, 11),
-        Parameter::Slot(k) => with_row(with_number(with_byte(text, b'S'), k as u64), limits, 12),
+        Parameter::Decimals => with_row(text, limits, 12),
+        Parameter::Hex => with_row(text, limits, 13),
+        Parameter::Slot(k) => with_row(with_number(with_byte(text, b'S'), k as u64), limits, 14),
     }
 }
 

@@ -11,7 +11,11 @@ use lines::Mistake;
 use numbers::with_hex;
 use numbers::with_number;
 use numbers::with_signed;
+use readout::BlockAnswer;
+use readout::NumberAnswer;
+use readout::PlaceAnswer;
 use recorder::ReadingAnswer;
+use recorder::ReadoutAnswer;
 use recorder::RecordAnswer;
 use recorder::SetAnswer;
 use recorder::StartAnswer;
@@ -27,12 +31,15 @@ ghost use Rattle.laws.specs.Answers.{given, refused};
 ghost use Rattle.calendar.specs.Moments.{momentOf};
 ghost use Rattle.sampling.specs.Samples.{sampleNumber};
 ghost use Rattle.recorder.specs.Calls.{startNumber, setNumber, readingNumber};
+ghost use Rattle.recorder.specs.Readout.{readoutNumber};
+ghost use Rattle.readout.specs.DataSets.{valuePlace};
+ghost use Rattle.readout.specs.Answers.{blockAnswer, lineNumber};
 ghost use Rattle.image.specs.Answers.{imageAnswer, writeSaid};
 ghost use Rattle.profile.specs.Reading.{recordSaid};
 ghost use Rattle.registers.specs.Registers.{registerSaid};
 ghost use Rattle.answers.specs.Texts.{withBytes, asText};
 ghost use Rattle.answers.specs.Numbers.{decimalOf, hexOf};
-ghost use Rattle.answers.specs.Answers.{okLine, refusedLine, refusedAt, refusedAfter, numberLine, samplesLine, startLine, registerLine, recordLine, imagePart, lineEnd, dateLine, classesText, fleetLine, errorLine};
+ghost use Rattle.answers.specs.Answers.{okLine, refusedLine, refusedAt, refusedAfter, numberLine, samplesLine, startLine, registerLine, recordLine, imagePart, blockLine, valueLine, dataSetLine, lineEnd, dateLine, classesText, fleetLine, errorLine};
 
 // A text of at most 256 letters: the first `length` bytes, and zeros behind them.
 pub struct Text {
@@ -128,6 +135,52 @@ pub fn reading_line(answer: ReadingAnswer) -> Text
         ReadingAnswer::NoMeter => refused(7),
         ReadingAnswer::NotFitted => refused(8),
         ReadingAnswer::BadReading => refused(10),
+    }
+}
+
+pub fn readout_line(answer: ReadoutAnswer) -> Text
+    ensures { λ r. ⌜ r ≡ asText (numberLine (readoutNumber answer)) ⌝ }
+{
+    match answer {
+        ReadoutAnswer::Block => refused(16),
+        ReadoutAnswer::Line => refused(17),
+        ReadoutAnswer::NotANumber => refused(18),
+        ReadoutAnswer::DoesNotFit => refused(19),
+        ReadoutAnswer::Read(reading) => reading_line(reading),
+    }
+}
+
+// The check of a block.
+pub fn block_line(bytes: &[u8]) -> Text
+    ensures { λ r. ⌜ r ≡ asText (blockLine (blockAnswer (now (bytes .entry)))) ⌝ }
+{
+    match readout::check_block(bytes) {
+        BlockAnswer::Whole => ok(),
+        BlockAnswer::Block => refused(16),
+    }
+}
+
+fn value_line(start: usize, length: usize, number: i32) -> Text
+    ensures { λ r. ⌜ r ≡ asText (valueLine (record { start = start; length = length }) number) ⌝ }
+{
+    let word = with_bytes(texts::blank(), b"value ");
+    let at = with_byte(with_number(word, start as u64), b' ');
+    let size = with_byte(with_number(at, length as u64), b' ');
+    with_byte(with_signed(size, number as i64), b'\n')
+}
+
+// The data set in a line: where its value stands, and the number of it.
+pub fn dataset_line(line: &[u8], decimals: u8) -> Text
+    ensures { λ r. ⌜ r ≡ asText (dataSetLine (valuePlace (now (line .entry))) (lineNumber (now (line .entry)) decimals)) ⌝ }
+{
+    let PlaceAnswer::At(start, length) = readout::value_place(line) else {
+        return refused(17);
+    };
+    let end = start + length;
+    match readout::whole_number(&line[start..end], decimals) {
+        NumberAnswer::Is(number) => value_line(start, length, number),
+        NumberAnswer::NotANumber => refused(18),
+        NumberAnswer::DoesNotFit => refused(19),
     }
 }
 

@@ -5,6 +5,7 @@ use calendar::Dated;
 use calendar::Moment;
 use image::IMAGE_LENGTH;
 use image::ImageAnswer;
+use readout::NumberAnswer;
 use recorder::RecordAnswer;
 use recorder::Recorder;
 use recorder::SampleAnswer;
@@ -250,7 +251,42 @@ fn records(recorder: Recorder, rounds: u32, buffer: &[u8]) {
     write_number(sum);
 }
 
-pub(crate) fn run(letter: u8, image: [u8; IMAGE_LENGTH], bits: [u16; 1000], rounds: u32) {
+// Two's complement; of 64 bits the lower half is mixed.
+fn number_bits(number: i32) -> u64 {
+    profile::bits64(number as i64)
+}
+
+// The number of a data set's value, and how long the value is; of a refusal its number, and 0.
+fn data_set(sum: u64, line: &[u8]) -> u64 {
+    let text = readout::value_text(line);
+    if text.len() == 0 {
+        return mixed(mixed(sum, 17), 0);
+    }
+    match readout::whole_number(text, 3) {
+        NumberAnswer::Is(number) => mixed(mixed(sum, number_bits(number)), text.len() as u64),
+        NumberAnswer::NotANumber => mixed(mixed(sum, 18), 0),
+        NumberAnswer::DoesNotFit => mixed(mixed(sum, 19), 0),
+    }
+}
+
+// One data set, with another digit before the point each time. It comes with the input: of a line that it knows the compiler works out the number itself.
+fn data_sets(line: [u8; 25], rounds: u32) {
+    let mut next = line;
+    let mut sum: u64 = 0;
+    for i in 0..rounds {
+        next[15] = b'0' + (i % 10) as u8;
+        sum = data_set(sum, &next);
+    }
+    write_number(sum);
+}
+
+pub(crate) fn run(
+    letter: u8,
+    image: [u8; IMAGE_LENGTH],
+    bits: [u16; 1000],
+    line: [u8; 25],
+    rounds: u32,
+) {
     let mut buffer = [0u8; 65536];
     let recorder = started(image, &buffer);
     match letter {
@@ -271,6 +307,7 @@ pub(crate) fn run(letter: u8, image: [u8; IMAGE_LENGTH], bits: [u16; 1000], roun
             let full = filled(recorder, bits, &mut buffer);
             records(full, rounds, &buffer)
         }
+        b'd' => data_sets(line, rounds),
         _ => {}
     }
 }

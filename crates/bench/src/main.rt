@@ -1,4 +1,4 @@
-// `bench JOBS ROUNDS`: work to be measured. Standard input has an image and 1,000 samples of two bytes each, the lower first. Each letter of JOBS is a job,
+// `bench JOBS ROUNDS`: work to be measured. Standard input has an image, 1,000 samples of two bytes each, the lower first, and a data set of 25 bytes. Each letter of JOBS is a job,
 // done ROUNDS times on a recorder of its own, and its results are printed; those of bench/peer.c, the same jobs in C, are the same.
 mod jobs;
 mod report;
@@ -39,25 +39,24 @@ fn rounds() -> u32 {
     number_of(&word[..n])
 }
 
-fn run(letters: &[u8], image: [u8; IMAGE_LENGTH], bits: [u16; 1000], rounds: u32) {
+fn run(letters: &[u8], image: [u8; IMAGE_LENGTH], bits: [u16; 1000], line: [u8; 25], rounds: u32) {
     for i in 0..letters.len() {
-        jobs::run(letters[i], image, bits, rounds);
+        jobs::run(letters[i], image, bits, line, rounds);
     }
 }
 
 fn main() {
     if os::arg_count() != 3 {
-        io::write_all(
-            STDOUT_FILENO,
-            b"usage: bench JOBS ROUNDS < IMAGE-AND-SAMPLES\n",
-        );
+        io::write_all(STDOUT_FILENO, b"usage: bench JOBS ROUNDS < DATA\n");
         return;
     }
     let mut image = [0u8; IMAGE_LENGTH];
     let mut bytes = [0u8; 2000];
     io::read_full(STDIN_FILENO, &mut image);
+    let mut line = [0u8; 25];
     io::read_full(STDIN_FILENO, &mut bytes);
+    io::read_full(STDIN_FILENO, &mut line);
     let mut letters = io::buffer();
     let n = os::arg(1, &mut letters);
-    run(&letters[..n], image, samples_of(bytes), rounds());
+    run(&letters[..n], image, samples_of(bytes), line, rounds());
 }

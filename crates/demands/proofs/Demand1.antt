@@ -6,7 +6,7 @@ use mathlib.Core.Logic.{_⊎_, inl, inr, ⊎-elim}
 use Prim.Native.Nat.{ℕ, zero, suc, _+_, _*_, _<_, _≤_}
 use native.Mathlib.Nat.{le-refl}
 use native.Mathlib.Omega.{arith}
-use borrow.Author.Tests.{not-true, not-false, eqb-true, eqb-false, eq-eqb, ltb-true, lt-ltb, leb-true, leb-false, le-leb, lt-leb}
+use borrow.Author.Tests.{not-true, not-false, eqb-true, eqb-false, eq-eqb, ne-eqb, ltb-true, lt-ltb, leb-true, leb-false, le-leb, lt-leb}
 use lib.Dec.{eqb, ltb, leb}
 use lib.IntN.{ℤ}
 use lib.ListN.{length, getD, take, drop}
@@ -37,6 +37,10 @@ use Rattle.profile.proofs.Places.{legal-is}
 use Rattle.sampling.specs.Closed.{closedBy, closedIn}
 use Rattle.sampling.specs.declared.Period.{Period}
 use Rattle.recorder.specs.Profile.{recordsOf, closedBySet, moved}
+use Rattle.laws.proofs.Answers.{by-answer}
+use Rattle.readout.specs.Answers.{lineNumber}
+use Rattle.readout.specs.Blocks.{isBlock}
+use Rattle.recorder.specs.Readout.{readoutReply, blockReadoutReply}
 use Rattle.recorder.specs.Calls.{startReply, sampleReply, readingReply, sampleLent, samplesLent, setLent}
 use Rattle.recorder.specs.declared.Recorder.{Recorder}
 use Rattle.recorder.specs.declared.Setup.{Setup}
@@ -44,8 +48,9 @@ use Rattle.sampling.specs.declared.State.{State}
 use Rattle.registers.specs.Registers.{Group, groups, lookUp, groupOf, replyOf, registerReply}
 use Rattle.registers.proofs.Groups.{none-found}
 use Rattle.registers.proofs.Laws.{refused-leaves}
+use Rattle.demands.proofs.Sent.{line-then, block-then, lines, blocks, readout-refused, readout-given}
 use Rattle.demands.proofs.Starts.{legal-test, start-test, as-at-start}
-use Rattle.demands.specs.Demand1.{Refusal, at, Ordered, numbered, imageRefusals, noDate, sampleRefusals, readingRefusals, registerRefusals, writeRefusals, ageRefusals, badLength, otherLength, badSlot, recordRefusals, RunEnds, Left, SameLeft, NumbersExact, RefusedChangesNothing, Demand1}
+use Rattle.demands.specs.Demand1.{Refusal, at, Ordered, numbered, imageRefusals, noDate, sampleRefusals, readingRefusals, registerRefusals, writeRefusals, ageRefusals, badLength, otherLength, badSlot, recordRefusals, badBlock, lineRefusals, RunEnds, Left, SameLeft, NumbersExact, RefusedChangesNothing, Demand1}
 
 -- a refusal whose condition is a test, and what comes after it
 next : {A : Type 0} (n o : ℕ) {when : Type 0} (rest : List Refusal) (test : Bool) (a : Answer A)
@@ -257,6 +262,20 @@ readings r meter v status seq =
     or-second true b e = refl
     or-second false b e = e
 
+pub readouts : (r : Recorder) (meter status seq decimals : ℕ) (line : List ℕ)
+    → Ordered (lineRefusals line decimals ++ readingRefusals r meter status seq) (numbered (readoutReply r meter status seq decimals line .number))
+readouts r meter status seq decimals line =
+    line-then line decimals (readingRefusals r meter status seq) (numbered (readoutReply r meter status seq decimals line .number))
+    (λ n h e. rw (readout-refused r meter status seq decimals line n e, ne-eqb n 0 (λ k. omega arith)))
+    (λ z e. rw (readout-given r meter status seq decimals line z e) (readings r meter z status seq))
+
+pub block-readouts : (r : Recorder) (meter status seq decimals : ℕ) (block line : List ℕ)
+    → Ordered (badBlock block ∷ lineRefusals line decimals ++ readingRefusals r meter status seq) (numbered (blockReadoutReply r meter status seq decimals block line .number))
+unfolding blockReadoutReply
+block-readouts r meter status seq decimals block line =
+    block-then block (lineRefusals line decimals ++ readingRefusals r meter status seq) (numbered (blockReadoutReply r meter status seq decimals block line .number)) (λ t. rw t)
+    (λ t. rw t (readouts r meter status seq decimals line))
+
 pub ages : (limit : ℕ) (read : Bool) (stamp status clock : ℕ) → Ordered (ageRefusals limit status) (ageOf limit read stamp status clock)
 unfolding ageOf
 ages limit read stamp status clock =
@@ -366,7 +385,7 @@ runs-leave r run buffer =
 
 pub numbers-exact : NumbersExact
 numbers-exact =
-    record { images = images; starts = starts; samples = samples; runs = runs; sets = sets; readings = readings; registers = registers; records = records; ages = ages; writes = writes }
+    record { images = images; starts = starts; samples = samples; runs = runs; sets = sets; readings = readings; lines = lines; blocks = blocks; readouts = readouts; block-readouts = block-readouts; registers = registers; records = records; ages = ages; writes = writes }
 
 -- a refused call leaves the state
 reply-leaves : (s : State) (a : Answer State) → (replyTo s a .number ≡ 0 → ⊥) → replyTo s a .after ≡ s
@@ -399,6 +418,22 @@ set-leaves r time buffer h =
     go (given later) some = absurd (some refl)
     go (refused n o) some = (refl, refl)
 
+-- and so do a refused reading and a refused data set
+reading-leaves : (r : Recorder) (meter : ℕ) (v : ℤ) (status seq : ℕ) → (readingReply r meter v status seq .number ≡ 0 → ⊥) → readingReply r meter v status seq .after ≡ r
+reading-leaves r meter v status seq h = ap (on r) (reply-leaves (r .state) (readingOf (r .config) (r .state) meter v status seq) h)
+
+readout-leaves : (r : Recorder) (meter status seq decimals : ℕ) (line : List ℕ)
+    → (readoutReply r meter status seq decimals line .number ≡ 0 → ⊥) → readoutReply r meter status seq decimals line .after ≡ r
+unfolding readoutReply
+readout-leaves r meter status seq decimals line h =
+    by-answer (lineNumber line decimals) (λ z e. rw e (reading-leaves r meter z status seq (rw e at h))) (λ n offset e. rw e)
+
+block-readout-leaves : (r : Recorder) (meter status seq decimals : ℕ) (block line : List ℕ)
+    → (blockReadoutReply r meter status seq decimals block line .number ≡ 0 → ⊥) → blockReadoutReply r meter status seq decimals block line .after ≡ r
+unfolding blockReadoutReply
+block-readout-leaves r meter status seq decimals block line h =
+    by-test (isBlock block) (λ t. rw t (readout-leaves r meter status seq decimals line (rw t at h))) (λ t. rw t)
+
 pub refused-changes-nothing : RefusedChangesNothing
 unfolding afterWrite
 refused-changes-nothing =
@@ -407,7 +442,9 @@ refused-changes-nothing =
       runs = runs-leave;
       sets = set-leaves;
       records = record-leaves;
-      readings = λ r meter v status seq h. ap (on r) (reply-leaves (r .state) (readingOf (r .config) (r .state) meter v status seq) h);
+      readings = reading-leaves;
+      readouts = readout-leaves;
+      block-readouts = block-readout-leaves;
       registers = refused-leaves;
       writes = λ c buffer n o e. rw e;
     }

@@ -9,6 +9,7 @@ pub mod Agrees
 pub mod Closings
 pub mod Levels
 pub mod Bills
+pub mod Sent
 pub mod Demand1
 pub mod Demand3
 pub mod Checks
@@ -17,8 +18,10 @@ pub mod Shown
 pub mod Demand2
 pub mod Profile
 pub mod ClockBack
+pub mod Readout
 pub mod Example
 pub mod ProfileCases
 pub mod ClockBackCases
+pub mod ReadoutCases
 pub mod Full
 pub mod Tightness

@@ -8,7 +8,9 @@ use native.Mathlib.Omega.{arith}
 use borrow.Author.Tests.{le-leb, lt-leb, le-ltb}
 use lib.IntN.{ℤ, pos}
 use lib.ListN.{length, getD, take, length-map, length-take, length-reverse}
+use Rattle.laws.specs.Answers.{given, refused}
 use Rattle.laws.specs.Each.{Each}
+use Rattle.laws.proofs.Answers.{by-answer}
 use Rattle.laws.proofs.Tests.{by-test}
 use Rattle.laws.proofs.Cycles.{take-map, reverse-map, at-map}
 use Rattle.laws.specs.Tables.{table}
@@ -27,6 +29,9 @@ use Rattle.sampling.specs.Samples.{sampleOf}
 use Rattle.sampling.specs.Closed.{closedBy, closedIn}
 use Rattle.sampling.specs.declared.Period.{Period}
 use Rattle.sampling.specs.declared.State.{State}
+use Rattle.readout.specs.Answers.{lineNumber}
+use Rattle.readout.specs.Blocks.{isBlock}
+use Rattle.recorder.specs.Readout.{readoutReply, blockReadoutReply}
 use Rattle.recorder.specs.Clock.{setOf}
 use Rattle.recorder.specs.Profile.{recordOf, recordsOf, closedBySet, lentTo}
 use Rattle.recorder.specs.Calls.{profileBuffer, sampleReply, samplesReply, setReply, sampleLent, samplesLent, setLent}
@@ -38,7 +43,7 @@ use Rattle.demands.specs.Account.{Account, Ended, periodsOf, accountOf, 
 use Rattle.demands.specs.Starts.{Accepted, LegalLength, AsAtStart, SlotsFit}
 use Rattle.demands.specs.State.{valueOf, lastPeriod, stateIn}
 use Rattle.demands.specs.Demand2.{reached, takenIn, withSamples}
-use Rattle.demands.specs.Profile.{Made, call, run, sample-with, run-with, set-with, Hall, afterMade, afterSequence, OwnBuffer, callsOf, recordShown, lastPeriods, noPeriod, ProfileKept, ProfileOfHistory, RecorderOfSequence, Answered, AnswersOfSequence, OtherLength, RestKept, PastTheRoom, LoadProfile}
+use Rattle.demands.specs.Profile.{Made, call, run, sample-with, run-with, set-with, readout, block-readout, Hall, afterMade, afterSequence, OwnBuffer, heardBy, callsOf, recordShown, lastPeriods, noPeriod, ProfileKept, ProfileOfHistory, RecorderOfSequence, Answered, AnswersOfSequence, OtherLength, RestKept, PastTheRoom, LoadProfile}
 use Rattle.demands.proofs.Agrees.{stateAfter, state-after, agrees, answers-of-history}
 use Rattle.demands.proofs.Closings.{closedWith, call-periods, profile-is}
 use Rattle.demands.proofs.Levels.{state-is, state-of-history}
@@ -205,9 +210,16 @@ module _ (setup : Setup) (fit : SlotsFit setup) (c : Config) (accepted : Accepte
       (runs-of-history setup (length buffer) c time calls bits .2)
       (left calls (λ k. closedIn k (r .state) bits) after (one-run calls bits)))
 
+  -- a data set is the reading of its number, or nothing
+  made-readout : (calls : List Call) (meter status seq decimals : ℕ) (line : List ℕ)
+      → afterMade (hall calls) (readout meter status seq decimals line) ≡ hall (heardBy meter status seq (lineNumber line decimals) calls)
+  unfolding readoutReply
+  made-readout calls meter status seq decimals line =
+      by-answer (lineNumber line decimals) (λ z e. rw e (made calls (reading meter z status seq))) (λ n offset e. rw e)
+
   -- after a sequence
   pub reaches : (sequence : List Made) → Each (OwnBuffer (length buffer)) sequence → afterSequence setup c time buffer sequence ≡ hall (callsOf c time sequence)
-  unfolding afterSequence afterAll accountOf
+  unfolding afterSequence afterAll accountOf blockReadoutReply
   reaches [] own = refl
   reaches (call x ∷ earlier) own = ap (λ (h : Hall). afterMade h (call x)) (reaches earlier (own .1)) ∙ made (callsOf c time earlier) x
   reaches (run bits ∷ earlier) own = ap (λ (h : Hall). afterMade h (run bits)) (reaches earlier (own .1)) ∙ made-run (callsOf c time earlier) bits
@@ -220,6 +232,12 @@ module _ (setup : Setup) (fit : SlotsFit setup) (c : Config) (accepted : Accepte
   reaches (set-with other seconds ∷ earlier) own =
       let calls = callsOf c time earlier in
       ap (λ (h : Hall). afterMade h (set-with other seconds)) (reaches earlier (own .1)) ∙ rw (other-length .sets (at calls) other (stays-put calls other (own .0)) seconds)
+  reaches (readout meter status seq decimals line ∷ earlier) own =
+      ap (λ (h : Hall). afterMade h (readout meter status seq decimals line)) (reaches earlier (own .1)) ∙ made-readout (callsOf c time earlier) meter status seq decimals line
+  reaches (block-readout meter status seq decimals block line ∷ earlier) own =
+      let calls = callsOf c time earlier in
+      ap (λ (h : Hall). afterMade h (block-readout meter status seq decimals block line)) (reaches earlier (own .1))
+      ∙ by-test (isBlock block) (λ t. rw t (made-readout calls meter status seq decimals line)) (λ t. rw t)
 
   -- how many records are held
   last-long : (calls : List Call) → length (lastPeriods (length buffer) (periods calls)) ≡ min (length (periods calls)) (length buffer / 69)

@@ -6,6 +6,7 @@ use Rattle.image.proofs.Unique as image
 use Rattle.counting.proofs.Unique as counting
 use Rattle.sampling.proofs.Unique as sampling
 use Rattle.profile.proofs.Unique as profile
+use Rattle.readout.proofs.Unique as readout
 use Rattle.recorder.proofs.Unique as recorder
 use Rattle.registers.proofs.Unique as registers
 use Rattle.lines.proofs.Unique as lines
@@ -58,11 +59,18 @@ tight =
       profile-bits64 = (profile.bits64, λ κs args. tt);
       profile-slots-fit = (profile.slots-fit, λ κs args. tt);
       profile-choose = (profile.choose, λ κs args. tt);
+      readout-value-place = (readout.value-place, λ κs args. tt);
+      readout-value-text = (readout.value-text, λ κs args. tt);
+      readout-whole-number = (readout.whole-number, λ κs args. tt);
+      readout-line-number = (readout.line-number, λ κs args. tt);
+      readout-check-block = (readout.check-block, λ κs args. tt);
       recorder-start = (recorder.start-once, λ κs args. tt);
       recorder-sample = (recorder.sample-once, (recorder.sample-exit, λ κs args. tt));
       recorder-samples = (recorder.samples-once, (recorder.samples-exit, λ κs args. tt));
       recorder-set-clock = (recorder.set-clock-once, (recorder.set-clock-exit, λ κs args. tt));
       recorder-reading = (recorder.reading-once, λ κs args. tt);
+      recorder-readout = (recorder.readout-once, λ κs args. tt);
+      recorder-block-readout = (recorder.block-readout-once, λ κs args. tt);
       recorder-reset-bills = (recorder.reset-bills-once, λ κs args. tt);
       recorder-read-record = (recorder.read-record-once, (recorder.read-record-exit, λ κs args. tt));
       recorder-age-class = (recorder.age-class-once, λ κs args. tt);
@@ -70,12 +78,17 @@ tight =
       registers-read-register = (registers.read-register-once, (registers.read-register-exit, λ κs args. tt));
       registers-fleet-of = (registers.fleet-of-once, λ κs args. tt);
       lines-line-of = (lines.line-of, λ κs args. tt);
+      lines-text-after = (lines.text-after, λ κs args. tt);
+      lines-hex-bytes = (lines.hex-bytes, λ κs args. tt);
       answers-ok = (answers.ok, λ κs args. tt);
       answers-check-line = (answers.check-line, λ κs args. tt);
       answers-start-line = (answers.start-line, λ κs args. tt);
       answers-samples-line = (answers.samples-line, λ κs args. tt);
       answers-set-line = (answers.set-line, λ κs args. tt);
       answers-reading-line = (answers.reading-line, λ κs args. tt);
+      answers-dataset-line = (answers.dataset-line, λ κs args. tt);
+      answers-readout-line = (answers.readout-line, λ κs args. tt);
+      answers-block-line = (answers.block-line, λ κs args. tt);
       answers-register-line = (answers.register-line, λ κs args. tt);
       answers-record-line = (answers.record-line, λ κs args. tt);
       answers-image-part = (answers.image-part, λ κs args. tt);

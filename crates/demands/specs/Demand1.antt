@@ -26,6 +26,12 @@ use Rattle.sampling.specs.Samples.{activeLines}
 use Rattle.recorder.specs.Meters.{ageOf}
 use Rattle.recorder.specs.Profile.{WithBuffer}
 use Rattle.recorder.specs.Calls.{startReply, readingReply, sampleLent, samplesLent, setLent}
+use Rattle.recorder.specs.Readout.{readoutReply, blockReadoutReply}
+use Rattle.readout.specs.DataSets.{AllOf, DataSet, lineOf, IsDataSet}
+use Rattle.readout.specs.Numbers.{Decimal, most}
+use Rattle.readout.specs.Blocks.{notEtx, blockAround}
+use Rattle.readout.specs.Answers.{lineNumber, blockAnswer}
+use Rattle.readout.specs.Laws.{Sent}
 use Rattle.profile.specs.Reading.{heldIn, recordReply}
 use Rattle.profile.specs.declared.Profile.{Profile}
 use Rattle.recorder.specs.declared.Recorder.{Recorder}
@@ -127,6 +133,26 @@ badSlot setup = at 8 0 ((k : ℕ) × (k < 8) × (15 < getD (setup .slots) k 0))
 abbrev pub recordRefusals : Profile → ℕ → List ℕ → List ℕ → List Refusal
 recordRefusals p index buffer result = otherLength p buffer ∷ at 15 0 (heldIn p ≤ index) ∷ at 13 0 (length result < 69) ∷ []
 
+-- CR 4: "16 BLOCK": the bytes are not STX, bytes other than ETX, ETX and their check byte
+abbrev pub badBlock : List ℕ → Refusal
+badBlock block = at 16 0 ((bytes : List ℕ) → AllOf notEtx bytes → blockAround bytes ≡ block → ⊥)
+
+-- "17 LINE": the line is that of no data set
+abbrev pub noLine : List ℕ → Refusal
+noLine line = at 17 0 ((d : DataSet) → IsDataSet d → lineOf d ≡ line → ⊥)
+
+-- "18 NOT A NUMBER (also for a non-zero digit past the stated decimals, or decimals above 9)": no number is written in it with these decimals
+abbrev pub notANumber : List ℕ → ℕ → Refusal
+notANumber line decimals = at 18 0 ((n : ℕ) (w : Decimal) → Sent line decimals n w → ⊥)
+
+-- "19 DOES NOT FIT 32 BITS": one is, and it is past the most that its sign allows
+abbrev pub doesNotFit : List ℕ → ℕ → Refusal
+doesNotFit line decimals = at 19 0 ((n : ℕ) × (w : Decimal) × Sent line decimals n w × (most (w .minus) < n))
+
+-- those of a line
+abbrev pub lineRefusals : List ℕ → ℕ → List Refusal
+lineRefusals line decimals = noLine line ∷ notANumber line decimals ∷ doesNotFit line decimals ∷ []
+
 -- a run of samples: 14 exactly where the buffer has another length, and none is taken; else all were taken, or the first that was not is refused with its own number, on the recorder that the others left
 abbrev pub RunEnds : Recorder → List ℕ → List ℕ → Type 0
 RunEnds r run buffer =
@@ -136,7 +162,7 @@ RunEnds r run buffer =
     ((AsAtStart (r .profile) (length buffer) → ⊥) × (reply .taken ≡ 0) × (reply .number ≡ 14)) ⊎ (AsAtStart (r .profile) (length buffer) × (all ⊎ some))
 
 -- each call, on every recorder, ends with its result or with exactly the number that the rules name: "Order: start 1, 2, 3, 4, 9; sample 5, 6; reading 7, 8, 10; register 11, 12, 8, 13. Clock sets can give only 9",
--- and of CR 1 14 "before anything else", 8 "next"; a record 14, 15, 13
+-- and of CR 1 14 "before anything else", 8 "next"; a record 14, 15, 13; of CR 4 16, 17, 18, 19, "then those of a reading"
 pub record NumbersExact : Type 0 where
   pub images : (b : List ℕ) → Ordered (imageRefusals b) (imageAnswer b)
   pub starts : (setup : Setup) (lent : ℕ) (b : List ℕ) (time : ℕ)
@@ -148,6 +174,12 @@ pub record NumbersExact : Type 0 where
       → Ordered (otherLength (r .profile) buffer ∷ noDate time ∷ []) (numbered (setLent r time buffer .reply .number))
   pub readings : (r : Recorder) (meter : ℕ) (value : ℤ) (status seq : ℕ)
       → Ordered (readingRefusals r meter status seq) (numbered (readingReply r meter value status seq .number))
+  pub lines : (line : List ℕ) (decimals : ℕ) → Ordered (lineRefusals line decimals) (lineNumber line decimals)
+  pub blocks : (block : List ℕ) → Ordered (badBlock block ∷ []) (blockAnswer block)
+  pub readouts : (r : Recorder) (meter status seq decimals : ℕ) (line : List ℕ)
+      → Ordered (lineRefusals line decimals ++ readingRefusals r meter status seq) (numbered (readoutReply r meter status seq decimals line .number))
+  pub block-readouts : (r : Recorder) (meter status seq decimals : ℕ) (block line : List ℕ)
+      → Ordered (badBlock block ∷ lineRefusals line decimals ++ readingRefusals r meter status seq) (numbered (blockReadoutReply r meter status seq decimals block line .number))
   pub registers : (r : Recorder) (group register : ℕ) (buffer : List ℕ)
       → Ordered (registerRefusals r group register buffer) (registerReply r group register buffer .answer)
   pub records : (p : Profile) (index : ℕ) (buffer result : List ℕ)
@@ -172,6 +204,10 @@ pub record RefusedChangesNothing : Type 0 where
       → recordReply p index buffer result .answer ≡ refused n offset → recordReply p index buffer result .result ≡ result
   pub readings : (r : Recorder) (meter : ℕ) (value : ℤ) (status seq : ℕ)
       → (readingReply r meter value status seq .number ≡ 0 → ⊥) → readingReply r meter value status seq .after ≡ r
+  pub readouts : (r : Recorder) (meter status seq decimals : ℕ) (line : List ℕ)
+      → (readoutReply r meter status seq decimals line .number ≡ 0 → ⊥) → readoutReply r meter status seq decimals line .after ≡ r
+  pub block-readouts : (r : Recorder) (meter status seq decimals : ℕ) (block line : List ℕ)
+      → (blockReadoutReply r meter status seq decimals block line .number ≡ 0 → ⊥) → blockReadoutReply r meter status seq decimals block line .after ≡ r
   pub registers : (r : Recorder) (group register : ℕ) (buffer : List ℕ) (n offset : ℕ)
       → registerReply r group register buffer .answer ≡ refused n offset → registerReply r group register buffer .buffer ≡ buffer
   pub writes : (c : Config) (buffer : List ℕ) (n offset : ℕ) → writeAnswer c (length buffer) ≡ refused n offset → afterWrite c buffer ≡ buffer

@@ -9,8 +9,10 @@ pub mod Demand2
 pub mod Demand3
 pub mod Profile
 pub mod ClockBack
+pub mod Readout
 pub mod Table
 pub mod Example
 pub mod ProfileCases
 pub mod ClockBackCases
+pub mod ReadoutCases
 pub mod Tightness

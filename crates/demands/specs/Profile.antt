@@ -6,14 +6,18 @@ use lib.IntN.{ℤ}
 use lib.ListN.{length, getD, take, drop}
 use mir.Syntax.{w64}
 use mir.Val.{ofZ}
-use Rattle.laws.specs.Answers.{given, refused}
+use Rattle.laws.specs.Answers.{Answer, given, refused}
 use Rattle.laws.specs.Bytes.{bytesOf}
 use Rattle.laws.specs.Each.{Each}
+use Rattle.laws.specs.If.{if_then_else_}
 use Rattle.laws.specs.Runs.{joined}
 use Rattle.laws.specs.Tables.{table}
 use Rattle.settings.specs.Rules.{zeroSlot}
 use Rattle.settings.specs.declared.Config.{Config}
 use Rattle.profile.specs.Reading.{recordReply}
+use Rattle.readout.specs.Answers.{lineNumber}
+use Rattle.readout.specs.Blocks.{isBlock}
+use Rattle.recorder.specs.Readout.{readoutReply, blockReadoutReply}
 use Rattle.recorder.specs.Profile.{withBuffer}
 use Rattle.recorder.specs.Calls.{freshStart, blankRecorder, startReply, readingReply, resetReply, sampleLent, samplesLent, setLent}
 use Rattle.recorder.specs.History.{Call, sample, set, reading, reset}
@@ -26,13 +30,16 @@ use Rattle.demands.specs.Demand2.{takenIn, endOf, withSamples}
 
 -- A sequence of calls, and the buffer that is lent to them
 
--- a call as it is made. A call or a run of samples is lent the buffer as the one before left it; or a sample, a run or a clock set is lent another buffer
+-- a call as it is made. A call or a run of samples is lent the buffer as the one before left it; or a sample, a run or a clock set is lent another buffer; or a data set is to be booked as a reading:
+-- meter, STATUS, SEQ, decimals and its line, with a block around it or without
 pub data Made : Type 0 where
   call : Call → Made
   run : List ℕ → Made
   sample-with : List ℕ → ℕ → Made
   run-with : List ℕ → List ℕ → Made
   set-with : List ℕ → ℕ → Made
+  readout : ℕ → ℕ → ℕ → ℕ → List ℕ → Made
+  block-readout : ℕ → ℕ → ℕ → ℕ → List ℕ → List ℕ → Made
 
 -- the recorder, and the buffer as the last call left it
 pub record Hall : Type 0 where
@@ -53,6 +60,10 @@ afterMade x (run bits) =
 afterMade x (sample-with other bits) = record { recorder = sampleLent (x .recorder) bits other .reply .after; buffer = x .buffer }
 afterMade x (run-with other bits) = record { recorder = samplesLent (x .recorder) bits other .reply .after; buffer = x .buffer }
 afterMade x (set-with other seconds) = record { recorder = setLent (x .recorder) seconds other .reply .after; buffer = x .buffer }
+afterMade x (readout meter status seq decimals line) =
+    record { recorder = readoutReply (x .recorder) meter status seq decimals line .after; buffer = x .buffer }
+afterMade x (block-readout meter status seq decimals block line) =
+    record { recorder = blockReadoutReply (x .recorder) meter status seq decimals block line .after; buffer = x .buffer }
 
 -- after a sequence, the newest call first, from a fresh start with a buffer on: "Start writes nothing into it"
 unfoldable pub afterSequence : Setup → Config → ℕ → List ℕ → List Made → Hall
@@ -66,8 +77,15 @@ OwnBuffer n (run bits) = Unit
 OwnBuffer n (sample-with other bits) = length other ≡ n → ⊥
 OwnBuffer n (run-with other bits) = length other ≡ n → ⊥
 OwnBuffer n (set-with other seconds) = length other ≡ n → ⊥
+OwnBuffer n (readout meter status seq decimals line) = Unit
+OwnBuffer n (block-readout meter status seq decimals block line) = Unit
 
--- the calls of a sequence that count, the newest first: of a run the samples that the account takes; a call that was lent another length none
+-- a number that is to be booked is a reading of the history; what is none is no call
+abbrev pub heardBy : ℕ → ℕ → ℕ → Answer ℤ → List Call → List Call
+heardBy meter status seq (given value) calls = reading meter value status seq ∷ calls
+heardBy meter status seq (refused n offset) calls = calls
+
+-- the calls of a sequence that count, the newest first: of a run the samples that the account takes; a call that was lent another length none; of a data set the reading of its number, if it has one
 abbrev pub callsOf : Config → ℕ → List Made → List Call
 callsOf c time [] = []
 callsOf c time (call x ∷ earlier) = x ∷ callsOf c time earlier
@@ -77,6 +95,11 @@ callsOf c time (run bits ∷ earlier) =
 callsOf c time (sample-with other bits ∷ earlier) = callsOf c time earlier
 callsOf c time (run-with other bits ∷ earlier) = callsOf c time earlier
 callsOf c time (set-with other seconds ∷ earlier) = callsOf c time earlier
+callsOf c time (readout meter status seq decimals line ∷ earlier) = heardBy meter status seq (lineNumber line decimals) (callsOf c time earlier)
+callsOf c time (block-readout meter status seq decimals block line ∷ earlier) =
+    let calls = callsOf c time earlier in
+    let heard = heardBy meter status seq (lineNumber line decimals) calls in
+    if isBlock block then heard else calls
 
 -- The records
 

@@ -3,7 +3,8 @@
 use mathlib.Core.List.{List, [], _∷_}
 use Prim.Native.Nat.{ℕ}
 use denote.Ref.{now}
-use Rattle.laws.specs.Unique.{OneResult, OneExit}
+use Rattle.laws.specs.Parts.{partOf}
+use Rattle.laws.specs.Unique.{OneResult, OneExit, OneSeen}
 use Rattle.calendar.proofs.is_leap.Reads as calendar-is-leap
 use Rattle.calendar.proofs.month_length.Reads as calendar-month-length
 use Rattle.calendar.proofs.day_exists.Reads as calendar-day-exists
@@ -46,11 +47,18 @@ use Rattle.profile.proofs.Profile.read.Reads as profile-read
 use Rattle.profile.proofs.bits64.Reads as profile-bits64
 use Rattle.profile.proofs.slots_fit.Reads as profile-slots-fit
 use Rattle.profile.proofs.choose.Reads as profile-choose
+use Rattle.readout.proofs.value_place.Reads as readout-value-place
+use Rattle.readout.proofs.value_text.Reads as readout-value-text
+use Rattle.readout.proofs.whole_number.Reads as readout-whole-number
+use Rattle.readout.proofs.line_number.Reads as readout-line-number
+use Rattle.readout.proofs.check_block.Reads as readout-check-block
 use Rattle.recorder.proofs.Recorder.start.Reads as recorder-start
 use Rattle.recorder.proofs.Recorder.sample.Reads as recorder-sample
 use Rattle.recorder.proofs.Recorder.samples.Reads as recorder-samples
 use Rattle.recorder.proofs.Recorder.set_clock.Reads as recorder-set-clock
 use Rattle.recorder.proofs.Recorder.reading.Reads as recorder-reading
+use Rattle.recorder.proofs.Recorder.readout.Reads as recorder-readout
+use Rattle.recorder.proofs.Recorder.block_readout.Reads as recorder-block-readout
 use Rattle.recorder.proofs.Recorder.reset_bills.Reads as recorder-reset-bills
 use Rattle.recorder.proofs.Recorder.read_record.Reads as recorder-read-record
 use Rattle.recorder.proofs.age_class.Reads as recorder-age-class
@@ -58,12 +66,17 @@ use Rattle.recorder.proofs.age_answer.Reads as recorder-age-answer
 use Rattle.registers.proofs.read_register.Reads as registers-read-register
 use Rattle.registers.proofs.fleet_of.Reads as registers-fleet-of
 use Rattle.lines.proofs.line_of.Reads as lines-line-of
+use Rattle.lines.proofs.text_after.Reads as lines-text-after
+use Rattle.lines.proofs.hex_bytes.Reads as lines-hex-bytes
 use Rattle.answers.proofs.ok.Reads as answers-ok
 use Rattle.answers.proofs.check_line.Reads as answers-check-line
 use Rattle.answers.proofs.start_line.Reads as answers-start-line
 use Rattle.answers.proofs.samples_line.Reads as answers-samples-line
 use Rattle.answers.proofs.set_line.Reads as answers-set-line
 use Rattle.answers.proofs.reading_line.Reads as answers-reading-line
+use Rattle.answers.proofs.dataset_line.Reads as answers-dataset-line
+use Rattle.answers.proofs.readout_line.Reads as answers-readout-line
+use Rattle.answers.proofs.block_line.Reads as answers-block-line
 use Rattle.answers.proofs.register_line.Reads as answers-register-line
 use Rattle.answers.proofs.record_line.Reads as answers-record-line
 use Rattle.answers.proofs.image_part.Reads as answers-image-part
@@ -91,6 +104,11 @@ Lent seen post asked = OneExit seen post × AsksNothing asked
 abbrev pub AloneAndLent {ℓ} : {L : Type ℓ} {Args Result Exit : L → Type 0} → ((κs : L) → Exit κs → List ℕ)
     → ((κs : L) → Args κs → Result κs → Exit κs → Type 0) → ((κs : L) → Args κs → Type 0) → Type ℓ
 AloneAndLent seen post asked = OneResult post × Lent seen post asked
+
+-- of one that hands back a part of what it is lent: no second part fits, neither another place nor other bytes; `seen` reads both off the reference
+abbrev pub Handed {ℓ} : {L : Type ℓ} {Args Result Exit : L → Type 0} {X : Type 0} → ((κs : L) → Result κs → X)
+    → ((κs : L) → Args κs → Result κs → Exit κs → Type 0) → ((κs : L) → Args κs → Type 0) → Type ℓ
+Handed seen post asked = OneSeen seen post × AsksNothing asked
 
 -- the list
 pub record Tight : Type 1 where
@@ -143,12 +161,20 @@ pub record Tight : Type 1 where
   pub profile-bits64 : Alone profile-bits64.Post profile-bits64.Asked
   pub profile-slots-fit : Alone profile-slots-fit.Post profile-slots-fit.Asked
   pub profile-choose : Alone profile-choose.Post profile-choose.Asked
+  -- crate readout
+  pub readout-value-place : Alone readout-value-place.Post readout-value-place.Asked
+  pub readout-value-text : Handed (λ κs r. partOf r) readout-value-text.Post readout-value-text.Asked
+  pub readout-whole-number : Alone readout-whole-number.Post readout-whole-number.Asked
+  pub readout-line-number : Alone readout-line-number.Post readout-line-number.Asked
+  pub readout-check-block : Alone readout-check-block.Post readout-check-block.Asked
   -- crate recorder
   pub recorder-start : Alone recorder-start.Post recorder-start.Asked
   pub recorder-sample : AloneAndLent (λ κs e. now (e .1 .1 .0)) recorder-sample.Post recorder-sample.Asked
   pub recorder-samples : AloneAndLent (λ κs e. now (e .1 .1 .0)) recorder-samples.Post recorder-samples.Asked
   pub recorder-set-clock : AloneAndLent (λ κs e. now (e .1 .1 .0)) recorder-set-clock.Post recorder-set-clock.Asked
   pub recorder-reading : Alone recorder-reading.Post recorder-reading.Asked
+  pub recorder-readout : Alone recorder-readout.Post recorder-readout.Asked
+  pub recorder-block-readout : Alone recorder-block-readout.Post recorder-block-readout.Asked
   pub recorder-reset-bills : Alone recorder-reset-bills.Post recorder-reset-bills.Asked
   pub recorder-read-record : AloneAndLent (λ κs e. now (e .1 .1 .1 .0)) recorder-read-record.Post recorder-read-record.Asked
   pub recorder-age-class : Alone recorder-age-class.Post recorder-age-class.Asked
@@ -158,6 +184,8 @@ pub record Tight : Type 1 where
   pub registers-fleet-of : Alone registers-fleet-of.Post registers-fleet-of.Asked
   -- crate lines
   pub lines-line-of : Alone lines-line-of.Post lines-line-of.Asked
+  pub lines-text-after : Handed (λ κs r. partOf r) lines-text-after.Post lines-text-after.Asked
+  pub lines-hex-bytes : Alone lines-hex-bytes.Post lines-hex-bytes.Asked
   -- crate answers
   pub answers-ok : Alone answers-ok.Post answers-ok.Asked
   pub answers-check-line : Alone answers-check-line.Post answers-check-line.Asked
@@ -165,6 +193,9 @@ pub record Tight : Type 1 where
   pub answers-samples-line : Alone answers-samples-line.Post answers-samples-line.Asked
   pub answers-set-line : Alone answers-set-line.Post answers-set-line.Asked
   pub answers-reading-line : Alone answers-reading-line.Post answers-reading-line.Asked
+  pub answers-dataset-line : Alone answers-dataset-line.Post answers-dataset-line.Asked
+  pub answers-readout-line : Alone answers-readout-line.Post answers-readout-line.Asked
+  pub answers-block-line : Alone answers-block-line.Post answers-block-line.Asked
   pub answers-register-line : Alone answers-register-line.Post answers-register-line.Asked
   pub answers-record-line : Alone answers-record-line.Post answers-record-line.Asked
   pub answers-image-part : Alone answers-image-part.Post answers-image-part.Asked

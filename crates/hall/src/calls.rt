@@ -164,6 +164,65 @@ fn reading(desk: Desk, out: &mut [u8], meter: u8, value: i32, status: u8, seq: u
     said(desk, recorder, out, answers::reading_line(answer))
 }
 
+// A data set behind five words, booked as a reading.
+fn readout(
+    desk: Desk,
+    out: &mut [u8],
+    text: &[u8],
+    meter: u8,
+    status: u8,
+    seq: u8,
+    decimals: u8,
+) -> Desk {
+    let before = desk.recorder;
+    let read = before.readout(meter, status, seq, decimals, lines::text_after(text, 5));
+    let answer = read.answer;
+    let recorder = read.recorder;
+    said(desk, recorder, out, answers::readout_line(answer))
+}
+
+// The same behind six, the last of which is the block around it.
+fn block_readout(
+    desk: Desk,
+    out: &mut [u8],
+    text: &[u8],
+    meter: u8,
+    status: u8,
+    seq: u8,
+    decimals: u8,
+) -> Desk {
+    let hex = lines::hex_bytes(text, 5);
+    let bytes = hex.bytes;
+    let n = hex.count;
+    let before = desk.recorder;
+    let read = before.block_readout(
+        meter,
+        status,
+        seq,
+        decimals,
+        &bytes[..n],
+        lines::text_after(text, 6),
+    );
+    let answer = read.answer;
+    let recorder = read.recorder;
+    said(desk, recorder, out, answers::readout_line(answer))
+}
+
+fn block(desk: Desk, out: &mut [u8], text: &[u8]) -> Desk {
+    let hex = lines::hex_bytes(text, 1);
+    let bytes = hex.bytes;
+    let n = hex.count;
+    told(desk, out, answers::block_line(&bytes[..n]))
+}
+
+fn dataset(desk: Desk, out: &mut [u8], text: &[u8], decimals: u8) -> Desk {
+    told(
+        desk,
+        out,
+        answers::dataset_line(lines::text_after(text, 2), decimals),
+    )
+}
+
 fn reset(desk: Desk, out: &mut [u8]) -> Desk {
     let before = desk.recorder;
     let recorder = before.reset_bills();
@@ -236,18 +295,24 @@ pub(crate) fn answer(
         Line::Set(time) => set(desk, buffer, out, time),
         Line::Reading(meter, value, status, seq) => reading(desk, out, meter, value, status, seq),
         Line::Reset => reset(desk, out),
-        Line::Register(group, register_number, room) => register(
-            desk,
-            out,
-            group,
-            register_number,
-            room,
-        ),
+        Line::Register(group, n, room) => register(desk, out, group, n, room),
         Line::Image => write_image(desk, out),
         Line::Date(seconds) => told(desk, out, answers::date_line(seconds)),
         Line::Fleet => fleet(desk, out),
         Line::Profile(length, slots) => profile(desk, out, length, slots),
         Line::Record(index, room) => read_record(desk, buffer, out, index, room),
+        Line::Dataset(decimals) => dataset(desk, out, text, decimals),
+        Line::Readout(meter, status, seq, d) => readout(desk, out, text, meter, status, seq, d),
+        Line::Block => block(desk, out, text),
+        Line::Blockreadout(meter, status, seq, d) => block_readout(
+            desk,
+            out,
+            text,
+            meter,
+            status,
+            seq,
+            d,
+        ),
         Line::Wrong(mistake) => told(desk, out, answers::error_line(number, mistake)),
     }
 }

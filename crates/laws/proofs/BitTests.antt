@@ -11,7 +11,7 @@ use Rattle.laws.proofs.Tests.{by-test}
 use Rattle.laws.specs.Masks.{bitAt}
 
 -- a last digit is 0 or 1
-digit : (x : ℕ) → (x % 2 ≡ 0) ⊎ (x % 2 ≡ 1)
+pub digit : (x : ℕ) → (x % 2 ≡ 0) ⊎ (x % 2 ≡ 1)
 digit x = by-test (eqb (x % 2) 1) (λ e. inr (eqb-true _ _ e)) (λ e. let n = eqb-false (x % 2) 1 e in inl (omega arith))
 
 -- the last digit of a number that ends in the digit m

@@ -2,6 +2,9 @@
 pub mod If
 pub mod Tests
 pub mod First
+pub mod Each
+pub mod Leading
+pub mod Suffixes
 pub mod Broken
 pub mod Any
 pub mod Total
@@ -10,6 +13,7 @@ pub mod Spans
 pub mod Masks
 pub mod Counts
 pub mod BitTests
+pub mod Xor
 pub mod Tables
 pub mod Sparse
 pub mod Keys
@@ -17,8 +21,10 @@ pub mod Bytes
 pub mod Decimals
 pub mod Signed
 pub mod Runs
+pub mod Parts
 pub mod Stores
 pub mod Cycles
 pub mod Codec
 pub mod Arrays
+pub mod Answers
 pub mod Unique

@@ -44,3 +44,8 @@ natural w (negsuc n) h t = absurd (true≢false t)
 pub negated : (n : ℕ) → (n ≡ 0 → ⊥) → n ≤ 2147483648 → toZ w32 (4294967295 - (n - 1)) ≡ negℤ (pos n)
 negated zero h g = absurd (h refl)
 negated (suc m) h g = let e : 4294967295 - (suc m - 1) ≡ 4294967296 - suc m = omega arith in rw e (toZ-neg w32 m g)
+
+-- they give it back
+pub negated-back : (n : ℕ) → n ≤ 2147483648 → toZ w32 (ofZ w32 (negℤ (pos n))) ≡ negℤ (pos n)
+negated-back zero h = refl
+negated-back (suc n) h = toZ-neg w32 n h

@@ -3,9 +3,9 @@ use mathlib.Core.Path.{_≡_, refl, sym, ap, _∙_}
 use mathlib.Core.List.{List, [], _∷_, _++_, append-assoc}
 use Prim.Native.Nat.{ℕ, zero, suc, _+_, _-_, _/_, _%_, _≤_, _<_}
 use native.Mathlib.Nat.{le-of-lt}
-use native.Mathlib.Numerals.{add-one}
+use native.Mathlib.Numerals.{add-one, unary-clauses}
 use native.Mathlib.Omega.{arith}
-use lib.ListN.{length, take, drop, set, getD}
+use lib.ListN.{length, take, drop, set, getD, replicate, length-replicate}
 use lib.Seq.{sets, sets-eq, take-suc, drop-cons, append-snoc, set-at, take-at, drop-at, length-take-le, take-set-le, drop-set-lt, drop-drop}
 use Rattle.laws.specs.Bytes.{bytesOf}
 
@@ -29,6 +29,18 @@ one-copied from to i h k =
     rw (add-one, take-suc from i 0, drop-cons to i 0)
     (set-at (take i from) (getD to i 0) (drop (suc i) to) (getD from i 0) i (length-take-le i from (le-of-lt h))
     ∙ sym (append-snoc (take i from) (getD from i 0) (drop (suc i) to)))
+
+-- what is left of equal elements
+drop-replicate : (k n x : ℕ) → drop k (replicate n x) ≡ replicate (n - k) x
+drop-replicate zero n x = simp unary-clauses
+drop-replicate (suc k) zero x = let none : 0 - suc k ≡ 0 = omega arith in rw none
+drop-replicate (suc k) (suc n) x = simp unary-clauses (drop-replicate k n x)
+
+-- the same in front of equal elements
+pub one-padded : (from : List ℕ) (n x i : ℕ) → i < length from → i < n
+    → set (take i from ++ replicate (n - i) x) i (getD from i 0) ≡ take (i + 1) from ++ replicate (n - (i + 1)) x
+one-padded from n x i h k =
+    rw (← drop-replicate i n x, ← drop-replicate (i + 1) n x) (one-copied from (replicate n x) i h (rw (length-replicate n x) k))
 
 -- what was stored stands there
 pub part-stored : (l : List ℕ) (at : ℕ) (xs : List ℕ) → at + length xs ≤ length l → take (length xs) (drop at (sets l at xs)) ≡ xs

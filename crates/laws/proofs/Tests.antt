@@ -1,6 +1,6 @@
 -- Proofs by the outcome of a test, and from a test of several parts to its parts.
 use mathlib.Core.Path.{_≡_, refl}
-use mathlib.Core.Bool.{Bool, true, false, _&&_, _||_}
+use mathlib.Core.Bool.{Bool, true, false, not, _&&_, _||_}
 
 -- by cases on a test, with its outcome as an equation
 pub by-test : {P : Type 0} (b : Bool) → (b ≡ true → P) → (b ≡ false → P) → P
@@ -20,6 +20,11 @@ and-right false b h = cc
 -- each, so both
 pub and-both : (a b : Bool) → a ≡ true → b ≡ true → (a && b) ≡ true
 and-both a b h k = rw (h, k)
+
+-- not both, where the second is so: not the first
+pub and-not : (a : Bool) → (a && true) ≡ false → not a ≡ true
+and-not true h = cc
+and-not false h = refl
 
 -- one of two, and not the first, so the second
 pub or-right : (a b : Bool) → a ≡ false → (a || b) ≡ true → b ≡ true

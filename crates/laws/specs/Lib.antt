@@ -1,6 +1,7 @@
 -- General definitions that several crates cite.
 pub mod If
 pub mod First
+pub mod Leading
 pub mod Broken
 pub mod Any
 pub mod Total
@@ -16,3 +17,4 @@ pub mod Letters
 pub mod Answers
 pub mod Unique
 pub mod Runs
+pub mod Parts

@@ -14,3 +14,9 @@ abbrev pub OneExit {ℓ} : {L : Type ℓ} {Args Result Exit : L → Type 0} → 
     → ((κs : L) → Args κs → Result κs → Exit κs → Type 0) → Type ℓ
 OneExit {L = L} {Args} {Result} {Exit} seen ensured =
     (κs : L) (args : Args κs) (x y : Result κs) (e f : Exit κs) → ensured κs args x e → ensured κs args y f → seen κs e ≡ seen κs f
+
+-- and for a reference, whose ghost name no contract fixes: two results that fit are seen as the same; `seen` reads it off the result
+abbrev pub OneSeen {ℓ} : {L : Type ℓ} {Args Result Exit : L → Type 0} {X : Type 0} → ((κs : L) → Result κs → X)
+    → ((κs : L) → Args κs → Result κs → Exit κs → Type 0) → Type ℓ
+OneSeen {L = L} {Args} {Result} {Exit} seen ensured =
+    (κs : L) (args : Args κs) (x y : Result κs) (e f : Exit κs) → ensured κs args x e → ensured κs args y f → seen κs x ≡ seen κs y

@@ -2,21 +2,27 @@
 use mathlib.Core.Path.{_≡_, refl, ap}
 use mathlib.Core.Bool.{true, false}
 use mathlib.Core.List.{List, [], _∷_}
-use Prim.Native.Nat.{ℕ, suc, _+_, _≤_, _<_, zero-le, suc-le-suc}
-use native.Mathlib.Nat.{le-of-suc-le-suc, not-suc-le-zero}
+use Prim.Native.Nat.{ℕ, zero, suc, _+_, _-_, _≤_, _<_, zero-le, suc-le-suc}
+use native.Mathlib.Nat.{le-refl, le-of-suc-le-suc, not-suc-le-zero, min-le-right}
 use native.Mathlib.Numerals.{add-one}
 use native.Mathlib.Omega.{arith}
 use lib.Dec.{eqb}
-use lib.ListN.{length, getD, take, drop, drop-of-length-le}
+use lib.ListN.{length, getD, take, drop, length-take, drop-of-length-le}
 use lib.Seq.{drop-cons}
 use Rattle.laws.proofs.Tests.{by-test}
-use Rattle.lines.specs.Words.{withoutReturn, inFront, words, word, blankAt, same}
+use Rattle.lines.specs.Words.{withoutReturn, inFront, words, word, wordPlace, blankAt, same}
 
 -- an empty line has no carriage return
 pub empty-kept : (l : List ℕ) → length l ≡ 0 → l ≡ withoutReturn l
 unfolding withoutReturn
 empty-kept [] e = refl
 empty-kept (b ∷ rest) e = absurd (omega arith)
+
+-- without its carriage return a line is no longer
+pub return-length : (l : List ℕ) → length (withoutReturn l) ≤ length l
+unfolding withoutReturn
+return-length l =
+    by-test (eqb (getD l (length l - 1) 0) 13) (λ e. rw (e, length-take) (min-le-right _ _)) (λ e. rw e (le-refl _))
 
 -- the place of the first blank: a letter that is none, a blank, the end
 module _ (l : List ℕ) (i : ℕ) where
@@ -63,21 +69,40 @@ first-word [] = refl
 first-word (b ∷ rest) =
     by-test (eqb b 32) (λ e. rw e) (λ e. rw (e, front-first b (words rest), first-word rest))
 
--- the words after it are those of the text after the blank
-pub later-word : (l : List ℕ) (k : ℕ) → blankAt l < length l → word (suc k) l ≡ word k (drop (suc (blankAt l)) l)
-unfolding words blankAt
-later-word [] k h = absurd (not-suc-le-zero h)
-later-word (b ∷ rest) k h =
-    by-test (eqb b 32) (λ e. rw e)
-    (λ e. rw (e, front-later b (words rest) k) (later-word rest k (le-of-suc-le-suc (rw e at h))))
+-- word k is the first of the text from its place on
+pub word-there : (k : ℕ) (l : List ℕ) → wordPlace k l ≤ length l → word k l ≡ word 0 (drop (wordPlace k l) l)
+unfolding words wordPlace
+word-there zero l h = refl
+word-there (suc k) [] h = refl
+word-there (suc k) (b ∷ rest) h =
+    by-test (eqb b 32) (λ e. rw e (word-there k rest (le-of-suc-le-suc (rw e at h))))
+    (λ e. rw (e, front-later b (words rest) k) (word-there (suc k) rest (le-of-suc-le-suc (rw e at h))))
 
--- with no blank there are none
-pub no-later-word : (l : List ℕ) (k : ℕ) → length l ≤ blankAt l → word (suc k) l ≡ []
-unfolding words blankAt
-no-later-word [] k h = refl
-no-later-word (b ∷ rest) k h =
-    by-test (eqb b 32) (λ e. absurd (not-suc-le-zero (rw e at h)))
-    (λ e. rw (e, front-later b (words rest) k) (no-later-word rest k (le-of-suc-le-suc (rw e at h))))
+-- with no such place there is no such word
+pub word-missing : (k : ℕ) (l : List ℕ) → length l < wordPlace k l → word k l ≡ []
+unfolding words wordPlace
+word-missing zero l h = absurd (not-suc-le-zero h)
+word-missing (suc k) [] h = refl
+word-missing (suc k) (b ∷ rest) h =
+    by-test (eqb b 32) (λ e. rw e (word-missing k rest (le-of-suc-le-suc (rw e at h))))
+    (λ e. rw (e, front-later b (words rest) k) (word-missing (suc k) rest (le-of-suc-le-suc (rw e at h))))
+
+-- the place of a word: a blank, another letter, the end
+module _ (l : List ℕ) (i : ℕ) where
+  pub place-blank : (k : ℕ) → i < length l → 0 < k → eqb (getD l i 0) 32 ≡ true → i + wordPlace k (drop i l) ≡ i + 1 + wordPlace (k - 1) (drop (i + 1) l)
+  unfolding wordPlace
+  place-blank zero h p e = absurd (not-suc-le-zero p)
+  place-blank (suc k) h p e = let m : suc k - 1 ≡ k = omega arith in rw (m, add-one, drop-cons l i 0) (simp e (omega arith))
+
+  pub place-letter : (k : ℕ) → i < length l → 0 < k → eqb (getD l i 0) 32 ≡ false → i + wordPlace k (drop i l) ≡ i + 1 + wordPlace k (drop (i + 1) l)
+  unfolding wordPlace
+  place-letter zero h p e = absurd (not-suc-le-zero p)
+  place-letter (suc k) h p e = rw (add-one, drop-cons l i 0) (simp e (omega arith))
+
+  pub place-end : (k : ℕ) → length l ≤ i → 0 < k → i + wordPlace k (drop i l) ≡ i + 1
+  unfolding wordPlace
+  place-end zero h p = absurd (not-suc-le-zero p)
+  place-end (suc k) h p = rw (drop-of-length-le l h)
 
 -- counting words: a blank, another letter, the end
 module _ (l : List ℕ) (i : ℕ) where

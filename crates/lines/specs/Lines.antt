@@ -1,18 +1,19 @@
 -- The table of lines. A line is taken without its end.
-use mathlib.Core.Bool.{Bool, true, not, _||_}
+use mathlib.Core.Bool.{Bool, true, false, not, _||_}
 use mathlib.Core.List.{List, [], _∷_}
 use Prim.Native.Nat.{ℕ, _+_}
-use lib.Dec.{ltb, eqb}
+use lib.Dec.{ltb, leb, eqb}
 use lib.ListN.{length, getD}
 use Rattle.laws.specs.First.{first}
 use Rattle.laws.specs.If.{if_then_else_}
 use Rattle.laws.specs.Letters.{letters}
 use Rattle.lines.specs.Words.{withoutReturn, words, word, same}
 use Rattle.lines.specs.Numbers.{wholeOf, signedOf}
+use Rattle.lines.specs.Hex.{isHex}
 use Rattle.lines.specs.declared.numbers.Number.{Number}
 use Rattle.lines.specs.declared.numbers.Signed.{Signed}
 use Rattle.lines.specs.declared.Line.{Line}
-use Rattle.lines.specs.declared.Line.the-variants.{Nothing, Start, Sample, Set, Reading, Reset, Register, Image, Date, Fleet, Profile, Record, Wrong}
+use Rattle.lines.specs.declared.Line.the-variants.{Nothing, Start, Sample, Set, Reading, Reset, Register, Image, Date, Fleet, Profile, Record, Dataset, Readout, Block, Blockreadout, Wrong}
 use Rattle.lines.specs.declared.Mistake.the-variants as mistake
 use Rattle.lines.specs.declared.Command.{Command}
 use Rattle.lines.specs.declared.Command.the-variants as command
@@ -43,7 +44,7 @@ count text = length (words text)
 abbrev pub numberOr : ℕ → ℕ → List ℕ → Number
 numberOr n k text = if ltb k (count text) then number32 k text else record { ok = true; value = n }
 
--- a word that is no number, or one that does not fit
+-- a word that is no number, or one that does not fit, or no HEX
 abbrev pub bad : Parameter → Line
 bad p = Wrong (mistake.Number p)
 
@@ -91,7 +92,33 @@ profileAsked n slot =
 abbrev pub recordAsked : Number → Number → Line
 recordAsked i room = if not (i .ok) then bad parameter.Index else if not (room .ok) then bad parameter.Room else Record (i .value) (room .value)
 
--- how many words a line of a command has
+-- a data set: DECIMALS
+abbrev pub datasetAsked : Number → Line
+datasetAsked d = if not (d .ok) then bad parameter.Decimals else Dataset (d .value)
+
+-- what is asked with a word that is HEX
+abbrev pub withHex : List ℕ → Line → Line
+withHex w line = if not (isHex w) then bad parameter.Hex else line
+
+-- what is asked with the numbers of a readout: with HEX, in word 5, or without
+abbrev pub withReadout : Bool → List ℕ → ℕ → ℕ → ℕ → ℕ → Line
+withReadout true text m s q d = withHex (word 5 text) (Blockreadout m s q d)
+withReadout false text m s q d = Readout m s q d
+
+-- a readout: meter, STATUS, SEQ and DECIMALS; the first number that is wrong is told
+abbrev pub readoutAsked : (ℕ → ℕ → ℕ → ℕ → Line) → Number → Number → Number → Number → Line
+readoutAsked ask m s q d =
+    if not (m .ok) then bad parameter.Meter
+    else if not (s .ok) then bad parameter.Status
+    else if not (q .ok) then bad parameter.Seq
+    else if not (d .ok) then bad parameter.Decimals
+    else ask (m .value) (s .value) (q .value) (d .value)
+
+-- the same of the words 1 to 4
+abbrev pub readoutOf : Bool → List ℕ → Line
+readoutOf hex text = readoutAsked (withReadout hex text) (number8 1 text) (number8 2 text) (number8 3 text) (number8 4 text)
+
+-- how many words a line of a command has; TEXT may hold blanks, and then it is several
 abbrev pub hasWords : Command → ℕ → Bool
 hasWords command.Start n = eqb n 2
 hasWords command.Sample n = eqb n 2 || eqb n 3
@@ -104,6 +131,10 @@ hasWords command.Date n = eqb n 2
 hasWords command.Fleet n = eqb n 1
 hasWords command.Profile n = eqb n 10
 hasWords command.Record n = eqb n 2 || eqb n 3
+hasWords command.Dataset n = leb 3 n
+hasWords command.Readout n = leb 6 n
+hasWords command.Block n = eqb n 2
+hasWords command.Blockreadout n = leb 7 n
 
 -- what a line of a command asks; COUNT is 1 where it is not written, and ROOM 13, the longest register, or 69, a record
 unfoldable pub askedOf : Command → List ℕ → Line
@@ -118,6 +149,10 @@ askedOf command.Date text = timeOf Date (number32 1 text)
 askedOf command.Fleet text = Fleet
 askedOf command.Profile text = profileAsked (number32 1 text) (λ k. number8 (k + 2) text)
 askedOf command.Record text = recordAsked (number32 1 text) (numberOr 69 2 text)
+askedOf command.Dataset text = datasetAsked (number8 1 text)
+askedOf command.Readout text = readoutOf false text
+askedOf command.Block text = withHex (word 1 text) Block
+askedOf command.Blockreadout text = readoutOf true text
 
 -- the commands by their words
 unfoldable pub commands : List (List ℕ × Command)
@@ -133,6 +168,10 @@ commands =
     ∷ (letters "fleet", command.Fleet)
     ∷ (letters "profile", command.Profile)
     ∷ (letters "record", command.Record)
+    ∷ (letters "dataset", command.Dataset)
+    ∷ (letters "readout", command.Readout)
+    ∷ (letters "block", command.Block)
+    ∷ (letters "blockreadout", command.Blockreadout)
     ∷ []
 
 -- the command that a table has for a word

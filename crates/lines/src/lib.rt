@@ -1,4 +1,5 @@
 // What a line of a text of calls asks for. A line is taken without its end.
+mod hex;
 mod numbers;
 mod words;
 
@@ -6,9 +7,11 @@ use numbers::Number;
 use numbers::Signed;
 ghost use mathlib.Core.Path.{_≡_};
 ghost use Prim.Native.Nat.{_≤_};
-ghost use Rattle.lines.specs.Words.{word};
+ghost use Rattle.laws.specs.Parts.{partOf};
+ghost use Rattle.lines.specs.Words.{word, textAfter};
 ghost use Rattle.lines.specs.Numbers.{wholeOf, signedOf};
-ghost use Rattle.lines.specs.Lines.{number32, number8, numberOr, withTime, timeOf, hasWords, askedOf, commandOf, asked, textMeans, lineMeans};
+ghost use Rattle.lines.specs.Hex.{hexBytes};
+ghost use Rattle.lines.specs.Lines.{number32, number8, numberOr, withTime, timeOf, withHex, readoutOf, hasWords, askedOf, commandOf, asked, textMeans, lineMeans};
 ghost use Rattle.lines.specs.Lines.{bad as Lines·bad};
 
 // What a line asks, or what is wrong with it.
@@ -31,6 +34,14 @@ pub enum Line {
     Profile(u32, Slots),
     // Index, room.
     Record(u32, u32),
+    // Decimals; `text_after` gives TEXT, behind 2 words.
+    Dataset(u8),
+    // Meter, STATUS, SEQ, decimals; TEXT stands behind 5 words.
+    Readout(u8, u8, u8, u8),
+    // `hex_bytes` gives HEX, word 1.
+    Block,
+    // As a readout; HEX is word 5, and TEXT stands behind 6.
+    Blockreadout(u8, u8, u8, u8),
     Wrong(Mistake),
 }
 
@@ -46,6 +57,12 @@ pub struct Slots {
     pub s7: u8,
 }
 
+// The bytes of HEX, with zeros behind them.
+pub struct Bytes {
+    pub bytes: [u8; 128],
+    pub count: usize,
+}
+
 // What is wrong with a line.
 pub enum Mistake {
     // More than 255 letters.
@@ -54,7 +71,7 @@ pub enum Mistake {
     Unknown,
     // Words are missing, or there are too many.
     Words(Command),
-    // A word is no number, or one that does not fit.
+    // A word is no number, or one that does not fit, or no HEX.
     Number(Parameter),
 }
 
@@ -70,9 +87,13 @@ pub enum Command {
     Fleet,
     Profile,
     Record,
+    Dataset,
+    Readout,
+    Block,
+    Blockreadout,
 }
 
-// The numbers that lines have.
+// The numbers that lines have, and HEX.
 pub enum Parameter {
     Seconds,
     Bits,
@@ -86,12 +107,14 @@ pub enum Parameter {
     Room,
     Length,
     Index,
+    Decimals,
+    Hex,
     // S0 to S7, by its number.
     Slot(u8),
 }
 
 // The commands, in the order of their words in `command_of`.
-const COMMANDS: [Command; 11] = [
+const COMMANDS: [Command; 15] = [
     Command::Sample,
     Command::Start,
     Command::Set,
@@ -103,6 +126,10 @@ const COMMANDS: [Command; 11] = [
     Command::Fleet,
     Command::Profile,
     Command::Record,
+    Command::Dataset,
+    Command::Readout,
+    Command::Block,
+    Command::Blockreadout,
 ];
 
 // What the first word of a line says.
@@ -121,7 +148,8 @@ enum Timed {
 fn command_of(first: &[u8]) -> First
     ensures { λ r. ⌜ r ≡ commandOf (now (first .entry)) ⌝ }
 {
-    let names = b"sample start set reading reset register image date fleet profile record";
+    let names =
+        b"sample start set reading reset register image date fleet profile record dataset readout block blockreadout";
     for k in 0..COMMANDS.len() {
         if words::is(first, words::word(names, k)) {
             let command = COMMANDS[k];
@@ -167,7 +195,7 @@ fn signed_at(text: &[u8], k: usize) -> Signed
     numbers::read_signed(w)
 }
 
-// A word that is no number, or one that does not fit.
+// A word that is no number, or one that does not fit, or no HEX.
 fn bad(parameter: Parameter) -> Line
     ensures { λ r. ⌜ r ≡ Lines·bad parameter ⌝ }
 {
@@ -290,7 +318,54 @@ fn record_line(text: &[u8]) -> Line
     Line::Record(index.value, room.value)
 }
 
-// How many words a line of a command has.
+fn dataset_line(text: &[u8]) -> Line
+    ensures { λ r. ⌜ r ≡ askedOf Command.Dataset (now (text .entry)) ⌝ }
+{
+    let d = number_at(text, 1, 255);
+    if !d.ok {
+        return bad(Parameter::Decimals);
+    }
+    Line::Dataset(d.value as u8)
+}
+
+// What is asked with HEX in word k.
+fn with_hex(text: &[u8], k: usize, line: Line) -> Line
+    ensures { λ r. ⌜ r ≡ withHex (word k (now (text .entry))) line ⌝ }
+{
+    if !hex::is_hex(words::word(text, k)) {
+        return bad(Parameter::Hex);
+    }
+    line
+}
+
+// A readout, with HEX in word 5 or without.
+fn readout_line(hex: bool, text: &[u8]) -> Line
+    ensures { λ r. ⌜ r ≡ readoutOf hex (now (text .entry)) ⌝ }
+{
+    let m = number_at(text, 1, 255);
+    if !m.ok {
+        return bad(Parameter::Meter);
+    }
+    let s = number_at(text, 2, 255);
+    if !s.ok {
+        return bad(Parameter::Status);
+    }
+    let q = number_at(text, 3, 255);
+    if !q.ok {
+        return bad(Parameter::Seq);
+    }
+    let d = number_at(text, 4, 255);
+    if !d.ok {
+        return bad(Parameter::Decimals);
+    }
+    if hex {
+        let line = Line::Blockreadout(m.value as u8, s.value as u8, q.value as u8, d.value as u8);
+        return with_hex(text, 5, line);
+    }
+    Line::Readout(m.value as u8, s.value as u8, q.value as u8, d.value as u8)
+}
+
+// How many words a line of a command has; TEXT may be several.
 fn has_words(command: Command, count: usize) -> bool
     ensures { λ r. ⌜ r ≡ hasWords command count ⌝ }
 {
@@ -306,6 +381,10 @@ fn has_words(command: Command, count: usize) -> bool
         Command::Fleet => count == 1,
         Command::Profile => count == 10,
         Command::Record => (count == 2) | (count == 3),
+        Command::Dataset => 3 <= count,
+        Command::Readout => 6 <= count,
+        Command::Block => count == 2,
+        Command::Blockreadout => 7 <= count,
     }
 }
 
@@ -325,6 +404,10 @@ fn ask(command: Command, text: &[u8]) -> Line
         Command::Fleet => Line::Fleet,
         Command::Profile => profile_line(text),
         Command::Record => record_line(text),
+        Command::Dataset => dataset_line(text),
+        Command::Readout => readout_line(false, text),
+        Command::Block => with_hex(text, 1, Line::Block),
+        Command::Blockreadout => readout_line(true, text),
     }
 }
 
@@ -363,4 +446,25 @@ pub fn line_of(text: &[u8]) -> Line
     ensures { λ r. ⌜ r ≡ lineMeans (now (text .entry)) ⌝ }
 {
     text_of(words::without_return(text))
+}
+
+// TEXT of a line: the part behind its first k words and the blank after them, without the carriage return; an empty part where there is no such blank.
+pub fn text_after(text: &[u8], k: usize) -> &[u8]
+    ensures { λ r. ⌜ partOf r ≡ textAfter k (text .entry) ⌝ }
+{
+    let line = words::without_return(text);
+    let end = line.len();
+    let start = words::word_start(line, k);
+    if end < start {
+        return &text[0..0];
+    }
+    &text[start..end]
+}
+
+// The bytes of word k of a line, if it is HEX.
+pub fn hex_bytes(text: &[u8], k: usize) -> Bytes
+    ensures { λ r. ⌜ r ≡ hexBytes k (now (text .entry)) ⌝ }
+{
+    let line = words::without_return(text);
+    hex::bytes_of(words::word(line, k))
 }

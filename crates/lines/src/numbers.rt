@@ -23,7 +23,7 @@ fn is_digit(b: u8) -> bool
     (48 <= b) & (b <= 57)
 }
 
-fn none() -> Number
+pub(crate) fn none() -> Number
     ensures { λ r. ⌜ r ≡ noNumber ⌝ }
 {
     Number {

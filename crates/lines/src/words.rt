@@ -2,7 +2,7 @@
 ghost use mathlib.Core.Path.{_≡_};
 ghost use Prim.Native.Nat.{_+_, _≤_};
 ghost use lib.ListN.{length, drop};
-ghost use Rattle.lines.specs.Words.{withoutReturn, words, blankAt, same};
+ghost use Rattle.lines.specs.Words.{withoutReturn, words, wordPlace, blankAt, same};
 ghost use Rattle.lines.specs.Words.{word as Words·word};
 
 // A line without the carriage return that may stand at its end.
@@ -35,19 +35,31 @@ fn word_end(text: &[u8], from: usize) -> usize
     i
 }
 
-// Word k, counted from 0; an empty part where there is no such word.
+// The place at which word k starts, counted from 0; past the text's end where there is no such word.
+pub(crate) fn word_start(text: &[u8], k: usize) -> usize
+    ensures { λ r. ⌜ r ≡ wordPlace k (now (text .entry)) ⌝ }
+{
+    let mut left = k;
+    let mut i = 0;
+    while 0 < left {
+        if text.len() <= i {
+            return i + 1;
+        }
+        if text[i] == b' ' {
+            left -= 1;
+        }
+        i += 1;
+    }
+    i
+}
+
+// Word k; an empty part where there is no such word.
 pub(crate) fn word(text: &[u8], k: usize) -> &[u8]
     ensures { λ r. ⌜ now r ≡ Words·word k (now (text .entry)) ⌝ }
 {
-    let mut start = 0;
-    let mut left = k;
-    while 0 < left {
-        let end = word_end(text, start);
-        if text.len() <= end {
-            return &text[0..0];
-        }
-        start = end + 1;
-        left -= 1;
+    let start = word_start(text, k);
+    if text.len() < start {
+        return &text[0..0];
     }
     let end = word_end(text, start);
     &text[start..end]

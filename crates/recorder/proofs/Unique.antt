@@ -14,7 +14,11 @@ use Rattle.sampling.proofs.Unique.{sample-apart}
 use Rattle.recorder.specs.Profile.{WithBuffer, withBuffer}
 use Rattle.recorder.specs.Meters.{ageNumber, ageSaid}
 use Rattle.recorder.specs.Calls.{StartAnswered, startNumber, setNumber, readingNumber}
+use Rattle.recorder.specs.Readout.{readoutNumber, readoutSaid}
 use Rattle.recorder.specs.declared.Recorder.{Recorder}
+use Rattle.recorder.specs.declared.MeterReadout.{MeterReadout}
+use Rattle.recorder.specs.declared.ReadoutAnswer.{ReadoutAnswer}
+use Rattle.recorder.specs.declared.ReadoutAnswer.the-variants as readout
 use Rattle.recorder.specs.declared.StartAnswer.{StartAnswer}
 use Rattle.recorder.specs.declared.StartAnswer.the-variants as start
 use Rattle.recorder.specs.declared.calls.SetAnswer.{SetAnswer}
@@ -30,6 +34,8 @@ use Rattle.recorder.proofs.Recorder.sample.Reads as sample-reads
 use Rattle.recorder.proofs.Recorder.samples.Reads as samples-reads
 use Rattle.recorder.proofs.Recorder.set_clock.Reads as set-clock-reads
 use Rattle.recorder.proofs.Recorder.reading.Reads as reading-reads
+use Rattle.recorder.proofs.Recorder.readout.Reads as readout-reads
+use Rattle.recorder.proofs.Recorder.block_readout.Reads as block-readout-reads
 use Rattle.recorder.proofs.Recorder.reset_bills.Reads as reset-bills-reads
 use Rattle.recorder.proofs.Recorder.read_record.Reads as read-record-reads
 use Rattle.recorder.proofs.meters.age_class.Reads as age-class-reads
@@ -59,6 +65,28 @@ reading-apart = told-apart readingNumber back told
     told reading.NoMeter = refl
     told reading.NotFitted = refl
     told reading.BadReading = refl
+
+-- to a data set that is to be booked
+pub readout-apart : (x y : ReadoutAnswer) → readoutNumber x ≡ readoutNumber y → x ≡ y
+readout-apart = told-apart readoutNumber back told
+  where
+    back : ℕ → ReadoutAnswer
+    back n =
+        if eqb n 16 then readout.Block
+        else if eqb n 17 then readout.Line
+        else if eqb n 18 then readout.NotANumber
+        else if eqb n 19 then readout.DoesNotFit
+        else readout.Read (if eqb n 7 then reading.NoMeter else if eqb n 8 then reading.NotFitted else if eqb n 10 then reading.BadReading else reading.Booked)
+
+    told : (x : ReadoutAnswer) → back (readoutNumber x) ≡ x
+    told readout.Block = refl
+    told readout.Line = refl
+    told readout.NotANumber = refl
+    told readout.DoesNotFit = refl
+    told (readout.Read reading.Booked) = refl
+    told (readout.Read reading.NoMeter) = refl
+    told (readout.Read reading.NotFitted) = refl
+    told (readout.Read reading.BadReading) = refl
 
 -- all classes of age
 pub age-apart : (x y : Age) → ageNumber x ≡ ageNumber y → x ≡ y
@@ -161,6 +189,19 @@ reading-once κs a x y e f p q =
     let answer = reading-apart (x .answer) (y .answer) (ap (λ (r : Reply Recorder). r .number) s) in
     let recorder = ap (λ (r : Reply Recorder). r .after) s in
     (λ i. record { answer = answer i; recorder = recorder i })
+
+-- of a data set, with a block around it or without
+readout-same : (x y : MeterReadout) → readoutSaid x ≡ readoutSaid y → x ≡ y
+readout-same x y s =
+    let answer = readout-apart (x .answer) (y .answer) (ap (λ (r : Reply Recorder). r .number) s) in
+    let recorder = ap (λ (r : Reply Recorder). r .after) s in
+    (λ i. record { answer = answer i; recorder = recorder i })
+
+pub readout-once : OneResult readout-reads.Post
+readout-once κs a x y e f p q = readout-same x y (p ∙ sym q)
+
+pub block-readout-once : OneResult block-readout-reads.Post
+block-readout-once κs a x y e f p q = readout-same x y (p ∙ sym q)
 
 pub reset-bills-once : OneResult reset-bills-reads.Post
 reset-bills-once κs a x y e f p q = p ∙ sym q

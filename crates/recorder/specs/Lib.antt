@@ -3,6 +3,7 @@ pub mod Meters
 pub mod Clock
 pub mod Profile
 pub mod Calls
+pub mod Readout
 pub mod History
 pub mod Cases
 pub mod Laws

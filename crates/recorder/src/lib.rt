@@ -21,6 +21,11 @@ pub use profile::Profile;
 pub use profile::RecordAnswer;
 use profile::legal_length;
 use profile::slots_fit;
+use readout::BlockAnswer;
+use readout::LineAnswer;
+use readout::NumberAnswer;
+use readout::check_block;
+use readout::line_number;
 use samples::keep;
 use samples::one;
 pub use sampling::Meter;
@@ -36,6 +41,7 @@ ghost use Rattle.profile.specs.Room.{freshProfile};
 ghost use Rattle.profile.specs.Reading.{recordReplied, recordReply};
 ghost use Rattle.recorder.specs.Profile.{withBuffer};
 ghost use Rattle.recorder.specs.Calls.{freshState, blankRecorder, startSaid, refusedStart, startDated, startFrom, startReply, sampledSaid, sampleLent, runSaid, samplesLent, clockSetSaid, setLent, meterReadSaid, readingReply, resetReply};
+ghost use Rattle.recorder.specs.Readout.{notBooked, readoutSaid, readoutReply, blockReadoutReply};
 ghost use Rattle.image.specs.Answers.{imageAnswer, imageConfig};
 
 // What else a start is given: the eight chosen slots of the load profile.
@@ -88,6 +94,20 @@ pub struct ClockSet {
 pub struct MeterRead {
     pub recorder: Recorder,
     pub answer: ReadingAnswer,
+}
+
+// What is said of a data set that is to be booked as a reading: why it is none, or what is said of the reading.
+pub enum ReadoutAnswer {
+    Block,
+    Line,
+    NotANumber,
+    DoesNotFit,
+    Read(ReadingAnswer),
+}
+
+pub struct MeterReadout {
+    pub recorder: Recorder,
+    pub answer: ReadoutAnswer,
 }
 
 // A state with nothing booked, at a time.
@@ -200,6 +220,13 @@ fn start_from(setup: Setup, length: usize, bytes: &[u8], time: u32) -> Start
         ImageAnswer::Version => refuse_start(StartAnswer::Version),
         ImageAnswer::Value(offset) => refuse_start(StartAnswer::Value(offset)),
     }
+}
+
+// A data set that is not booked leaves the recorder.
+fn not_booked(recorder: Recorder, answer: ReadoutAnswer) -> MeterReadout
+    ensures { λ r. ⌜ r ≡ notBooked recorder answer ⌝ }
+{
+    MeterReadout { recorder, answer }
 }
 
 impl Recorder {
@@ -318,6 +345,46 @@ impl Recorder {
         let next = reading.state;
         recorder.state = next;
         MeterRead { answer, recorder }
+    }
+
+    // Books the value of a data set as a reading: as a whole number with so many decimals.
+    pub fn readout(self, meter: u8, status: u8, seq: u8, decimals: u8, line: &[u8]) -> MeterReadout
+        ensures { λ r. ⌜ readoutSaid r ≡ readoutReply self meter status seq decimals (now (line .entry)) ⌝ }
+    {
+        let LineAnswer::Read(number) = line_number(line, decimals) else {
+            return not_booked(self, ReadoutAnswer::Line);
+        };
+        match number {
+            NumberAnswer::Is(value) => {
+                let read = self.reading(meter, value, status, seq);
+                let answer = read.answer;
+                let recorder = read.recorder;
+                MeterReadout {
+                    recorder,
+                    answer: ReadoutAnswer::Read(answer),
+                }
+            }
+            NumberAnswer::NotANumber => not_booked(self, ReadoutAnswer::NotANumber),
+            NumberAnswer::DoesNotFit => not_booked(self, ReadoutAnswer::DoesNotFit),
+        }
+    }
+
+    // The same with the block around it tested first.
+    pub fn block_readout(
+        self,
+        meter: u8,
+        status: u8,
+        seq: u8,
+        decimals: u8,
+        block: &[u8],
+        line: &[u8],
+    ) -> MeterReadout
+        ensures { λ r. ⌜ readoutSaid r ≡ blockReadoutReply self meter status seq decimals (now (block .entry)) (now (line .entry)) ⌝ }
+    {
+        match check_block(block) {
+            BlockAnswer::Whole => self.readout(meter, status, seq, decimals, line),
+            BlockAnswer::Block => not_booked(self, ReadoutAnswer::Block),
+        }
     }
 
     pub fn reset_bills(self) -> Recorder

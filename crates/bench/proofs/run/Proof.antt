@@ -5,10 +5,10 @@ use Rattle.bench.proofs.run.Statement.{statement}
 use Rattle.bench.proofs.run.Tie as tie
 
 abbrev Inv-loop : tie.InvT-loop
-Inv-loop letters image bits rounds i₀ i-end i = i ≤ i-end
+Inv-loop letters image bits line rounds i₀ i-end i = i ≤ i-end
 
 abbrev μ-loop : tie.MeasureT-loop
-μ-loop letters image bits rounds i₀ i-end i = i-end - i
+μ-loop letters image bits line rounds i₀ i-end i = i-end - i
 
 pub run-spec : {M : Type 1} → statement M
 run-spec =

@@ -2,7 +2,7 @@
 use mathlib.Core.Path.{_≡_, refl}
 use mathlib.Core.Bool.{false}
 use mathlib.Core.List.{List, [], _∷_}
-use Prim.Native.Nat.{ℕ, zero, suc, _-_, _≤_}
+use Prim.Native.Nat.{ℕ, _-_}
 use native.Mathlib.Omega.{arith}
 use lib.IntN.{pos, negℤ}
 use native.Mathlib.Nat.{lt-of-le-of-lt}
@@ -11,9 +11,10 @@ use lib.ListN.{length, take, drop, length-drop}
 use lib.Seq.{take-all}
 use mir.Syntax.{w32}
 use mir.Val.{toZ, ofZ}
-use mir.Facts.{toZ-pos, toZ-neg}
+use mir.Facts.{toZ-pos}
 use borrow.Author.Needs.{needs}
 use borrow.Author.Tests.{eq-eqb, ne-eqb}
+use Rattle.laws.proofs.Signed.{negated-back}
 use Rattle.lines.specs.Numbers.{isNumber, wholeOf, signedOf}
 use Rattle.lines.proofs.numbers.read_signed.Statement.{statement}
 use Rattle.lines.proofs.numbers.read_signed.Tie as tie
@@ -27,17 +28,12 @@ empty (b ∷ rest) h = absurd (omega arith)
 returns : tie.Need-returns
 returns c = empty _ (c .if1 .taken)
 
--- the bits of a negative number give it back
-back : (n : ℕ) → n ≤ 2147483648 → toZ w32 (ofZ w32 (negℤ (pos n))) ≡ negℤ (pos n)
-back zero h = refl
-back (suc n) h = toZ-neg w32 n h
-
 returns-2 : tie.Need-returns-2
 unfolding signedOf
 returns-2 c =
     let m = c .before .read-number in
     let w = c .before .before .before .before .before .before .before .args .w .now in
-    let v : toZ w32 (ofZ w32 (c .negative .result)) ≡ negℤ (pos (m .result .value)) = rw (c .negative .ensures) (back _ (m .ensures .1)) in
+    let v : toZ w32 (ofZ w32 (c .negative .result)) ≡ negℤ (pos (m .result .value)) = rw (c .negative .ensures) (negated-back _ (m .ensures .1)) in
     let rest : take (length w - 1) (drop 1 w) ≡ drop 1 w = take-all (length w - 1) (drop 1 w) (rw length-drop (omega arith)) in
     rw (v, eq-eqb _ _ (c .before .before .before .if2 .taken), m .ensures .0, rest)
 

@@ -1,0 +1,61 @@
+-- CR 4 over histories: what data sets are answered, and what the registers show of them.
+use mathlib.Core.Path.{_≡_, refl, sym, ap, _∙_}
+use mathlib.Core.Bool.{true, false}
+use mathlib.Core.List.{List}
+use Prim.Native.Nat.{ℕ}
+use Rattle.laws.specs.Answers.{given, refused}
+use Rattle.laws.proofs.Answers.{by-answer}
+use Rattle.laws.proofs.Tests.{by-test}
+use Rattle.readout.specs.Answers.{lineNumber}
+use Rattle.readout.specs.Blocks.{isBlock}
+use Rattle.readout.proofs.Splits.{one-split}
+use Rattle.readout.proofs.Written.{number-as-written}
+use Rattle.readout.proofs.ReadBack.{number-read-back, line-read-back}
+use Rattle.readout.proofs.Framed.{block-around-bytes, one-byte-changed}
+use Rattle.recorder.specs.History.{Call, reading}
+use Rattle.recorder.specs.Readout.{readoutReply, blockReadoutReply}
+use Rattle.recorder.specs.declared.Setup.{Setup}
+use Rattle.settings.specs.declared.Config.{Config}
+use Rattle.demands.specs.Demand2.{reached}
+use Rattle.demands.specs.Profile.{callsOf}
+use Rattle.demands.specs.Readout.{numberOfReadout, AnswersOfReadouts, RegistersOfSequence, MetersReadout}
+use Rattle.demands.proofs.Agrees.{answers-of-history}
+use Rattle.demands.proofs.Shown.{registers-of-history}
+use Rattle.demands.proofs.Profile.{reaches}
+
+-- a data set is answered with its number's refusal, or as its reading is
+module _ (setup : Setup) (lent : ℕ) (c : Config) (time : ℕ) (calls : List Call) (meter status seq decimals : ℕ) where
+  readout-number : (line : List ℕ)
+      → readoutReply (reached setup lent c time calls) meter status seq decimals line .number ≡ numberOfReadout c meter status seq (lineNumber line decimals)
+  unfolding readoutReply
+  readout-number line =
+      by-answer (lineNumber line decimals) (λ z e. rw e (answers-of-history setup lent c time calls (reading meter z status seq))) (λ n offset e. rw e)
+
+answers-of-readouts : AnswersOfReadouts
+unfolding blockReadoutReply
+answers-of-readouts setup fit c accepted time buffer limits sequence own =
+    let calls = callsOf c time sequence in
+    rw (reaches setup fit c accepted time buffer limits sequence own)
+    (record {
+      readouts = λ meter status seq decimals line. readout-number setup _ c time calls meter status seq decimals line;
+      block-readouts = λ meter status seq decimals block line.
+          by-test (isBlock block) (λ t. rw t (readout-number setup _ c time calls meter status seq decimals line)) (λ t. rw t);
+    })
+
+registers-of-sequence : RegistersOfSequence
+registers-of-sequence setup fit c accepted time buffer limits sequence own =
+    rw (reaches setup fit c accepted time buffer limits sequence own)
+    (λ group register result n. registers-of-history setup _ c accepted time (callsOf c time sequence) group register result n)
+
+pub cr-4 : MetersReadout
+cr-4 =
+    record {
+      one-split = one-split;
+      as-written = number-as-written;
+      read-back = number-read-back;
+      line-read-back = line-read-back;
+      blocks = block-around-bytes;
+      one-byte-changed = one-byte-changed;
+      answers = answers-of-readouts;
+      registers = registers-of-sequence;
+    }

@@ -1,0 +1,201 @@
+-- A number written with the stated decimals and read back is the same number, also from the line of a data set (specs/Laws.antt, NumberReadBack and LineReadBack).
+use mathlib.Core.Path.{_≡_, refl, sym, ap, _∙_}
+use mathlib.Core.Bool.{Bool, true, false}
+use mathlib.Core.List.{List, [], _∷_, _++_}
+use Prim.Native.Nat.{ℕ, zero, suc, _+_, _-_, _*_, _/_, _%_, _^_, _≤_, _<_, suc-le-suc, zero-le}
+use native.Mathlib.Nat.{pow-suc, div-div-eq-div-mul, mul-comm, lt-trans, lt-of-le-of-lt, le-trans, div-le-self, div-one}
+use native.Mathlib.Omega.{arith}
+use borrow.Author.Tests.{le-leb, ne-eqb, ltb-true, ltb-false, leb-true}
+use lib.Dec.{ltb, leb, lit<}
+use lib.IntN.{ℤ, pos, negsuc, negℤ}
+use lib.ListN.{length, take, drop, length-append}
+use lib.Seq.{take-append-seam}
+use Rattle.laws.specs.Answers.{given}
+use Rattle.laws.specs.Decimals.{isDigit, valueFrom, digit, decimalIn}
+use Rattle.laws.specs.Each.{Each}
+use Rattle.laws.specs.If.{if_then_else_}
+use Rattle.laws.proofs.Decimals.{value-append}
+use Rattle.laws.proofs.Each.{each-append, each-so}
+use Rattle.laws.proofs.Tests.{by-test, and-both, and-left, and-right}
+use Rattle.readout.specs.DataSets.{AllOf, DataSet, IsDataSet, starred, lineOf, valueLetter}
+use Rattle.readout.specs.Numbers.{Decimal, signText, pointed, textOf, IsDecimal, in32Bits, wholeNumber, Fits32, lastDigits, decimalFor, writtenWith}
+use Rattle.readout.specs.Answers.{lineNumber}
+use Rattle.readout.specs.Laws.{Written, NumberReadBack, LineReadBack}
+use Rattle.readout.proofs.Splits.{each-found, value-from}
+use Rattle.readout.proofs.Written.{each}
+
+-- a digit as a letter
+digit-letter : (n : ℕ) → isDigit (digit n) ≡ true
+digit-letter n = and-both (leb 48 (digit n)) (leb (digit n) 57) (le-leb 48 (48 + n % 10) (omega arith)) (le-leb (48 + n % 10) 57 (omega arith))
+
+-- one digit behind a number
+one-more : (m n : ℕ) → valueFrom m (digit n ∷ []) ≡ m * 10 + n % 10
+unfolding valueFrom
+one-more m n = let e : 48 + n % 10 - 48 ≡ n % 10 = omega arith in rw e
+
+-- the number before the point: its digits, that there is one, and that they make it
+decimal-digits : (k n : ℕ) → AllOf isDigit (decimalIn k n)
+unfolding decimalIn
+decimal-digits zero n = tt
+decimal-digits (suc k) n =
+    by-test (ltb n 10) (λ t. rw t (digit-letter n, tt))
+    (λ t. rw t (each-append (λ b. isDigit b ≡ true) (decimalIn k (n / 10)) (digit n ∷ []) (decimal-digits k (n / 10)) (digit-letter n, tt)))
+
+decimal-some : (k n : ℕ) → 1 ≤ length (decimalIn (suc k) n)
+unfolding decimalIn
+decimal-some k n =
+    by-test (ltb n 10) (λ t. rw t (suc-le-suc zero-le))
+    (λ t. rw t (let l = length-append (decimalIn k (n / 10)) (digit n ∷ []) in omega arith))
+
+decimal-short : (k n : ℕ) → length (decimalIn k n) ≤ k
+unfolding decimalIn
+decimal-short zero n = zero-le
+decimal-short (suc k) n =
+    by-test (ltb n 10) (λ t. rw t (suc-le-suc zero-le))
+    (λ t. rw t (let l = length-append (decimalIn k (n / 10)) (digit n ∷ []) in let s = decimal-short k (n / 10) in omega arith))
+
+-- a number of digits has some
+some-places : (k m : ℕ) → m < 10 ^ k → 1 ≤ m → 0 < k
+some-places zero m h l = absurd (let g : m < 1 = h in omega arith)
+some-places (suc k) m h l = suc-le-suc zero-le
+
+decimal-value : (k n : ℕ) → n < 10 ^ k → 0 < k → valueFrom 0 (decimalIn k n) ≡ n
+unfolding decimalIn
+decimal-value zero n h z = absurd (omega arith)
+decimal-value (suc k) n h z =
+    by-test (ltb n 10)
+    (λ t. let l = ltb-true n 10 t in rw t (one-more 0 n ∙ (omega arith)))
+    (λ t.
+    let l = ltb-false n 10 t in
+    let g : n < 10 ^ k * 10 = rw (pow-suc 10 k) at h in
+    let s : n / 10 < 10 ^ k = omega arith in
+    let k-some : 0 < k = some-places k (n / 10) s (omega arith) in
+    rw (t, value-append 0 (decimalIn k (n / 10)) (digit n ∷ []), decimal-value k (n / 10) s k-some, one-more (n / 10) n) (omega arith))
+
+-- those behind the point
+last-digits : (k n : ℕ) → AllOf isDigit (lastDigits k n)
+unfolding lastDigits
+last-digits zero n = tt
+last-digits (suc k) n = each-append (λ b. isDigit b ≡ true) (lastDigits k (n / 10)) (digit n ∷ []) (last-digits k (n / 10)) (digit-letter n, tt)
+
+last-length : (k n : ℕ) → length (lastDigits k n) ≡ k
+unfolding lastDigits
+last-length zero n = refl
+last-length (suc k) n = let l = length-append (lastDigits k (n / 10)) (digit n ∷ []) in let s = last-length k (n / 10) in omega arith
+
+last-value : (k n : ℕ) → valueFrom (n / 10 ^ k) (lastDigits k n) ≡ n
+unfolding lastDigits valueFrom
+last-value zero n = div-one n
+last-value (suc k) n =
+    let e : n / 10 ^ suc k ≡ n / 10 / 10 ^ k = rw (pow-suc 10 k, mul-comm (10 ^ k) 10) (sym (div-div-eq-div-mul n 10 (10 ^ k))) in
+    rw (e, value-append (n / 10 / 10 ^ k) (lastDigits k (n / 10)) (digit n ∷ []), last-value k (n / 10)) (one-more (n / 10) n ∙ (omega arith))
+
+-- a number below ten digits, as it is written
+module _ (minus : Bool) (n d : ℕ) (small : n < 10 ^ 10) where
+  abbrev w : Decimal
+  w = decimalFor minus n d
+
+  is-decimal : IsDecimal w
+  is-decimal = record { some = decimal-some 9 (n / 10 ^ d); whole-digits = decimal-digits 10 (n / 10 ^ d); fraction-digits = last-digits d n }
+
+  all-value : valueFrom 0 (w .whole ++ w .fraction) ≡ n
+  all-value =
+      value-append 0 (w .whole) (w .fraction)
+      ∙ ap (λ m. valueFrom m (w .fraction)) (decimal-value 10 (n / 10 ^ d) (lt-of-le-of-lt (div-le-self n (10 ^ d)) small) (omega arith))
+      ∙ last-value d n
+
+  is-written : Written (textOf w) d n w
+  is-written = record { rules = is-decimal; same = refl; is = rw (all-value, last-length d n) }
+
+pub number-read-back : NumberReadBack
+number-read-back (pos n) d h l =
+    let s : n < 10 ^ 10 = lt-of-le-of-lt h (lit< tt) in
+    each _ d n (decimalFor false n d) l (is-written false n d s) ∙ rw (le-leb n 2147483647 h)
+number-read-back (negsuc n) d h l =
+    let s : suc n < 10 ^ 10 = lt-of-le-of-lt h (lit< tt) in
+    each _ d (suc n) (decimalFor true (suc n) d) l (is-written true (suc n) d s) ∙ rw (le-leb (suc n) 2147483648 h)
+
+-- a digit may stand in a value
+digit-in-value : (b : ℕ) → isDigit b ≡ true → valueLetter b ≡ true
+digit-in-value b t =
+    let low = leb-true 48 b (and-left (leb 48 b) (leb b 57) t) in
+    let high = leb-true b 57 (and-right (leb 48 b) (leb b 57) t) in
+    rw (
+      le-leb 32 b (omega arith),
+      le-leb b 126 (omega arith),
+      ne-eqb b 40 (λ e. omega arith),
+      ne-eqb b 41 (λ e. omega arith),
+      ne-eqb b 47 (λ e. omega arith),
+      ne-eqb b 33 (λ e. omega arith),
+      ne-eqb b 42 (λ e. omega arith),
+    )
+
+-- so may sign and point
+letters-in : (l : List ℕ) → AllOf isDigit l → AllOf valueLetter l
+letters-in l h = each-so (λ b. isDigit b ≡ true) (λ b. valueLetter b ≡ true) digit-in-value l h
+
+pointed-in : (f : List ℕ) → AllOf isDigit f → AllOf valueLetter (pointed f)
+pointed-in [] h = tt
+pointed-in (b ∷ rest) h = (refl, letters-in (b ∷ rest) h)
+
+sign-in : (minus : Bool) → AllOf valueLetter (signText minus)
+sign-in true = (refl, tt)
+sign-in false = tt
+
+pointed-length : (f : List ℕ) → length (pointed f) ≤ suc (length f)
+pointed-length [] = zero-le
+pointed-length (b ∷ rest) = omega arith
+
+sign-length : (minus : Bool) → length (signText minus) ≤ 1
+sign-length true = omega arith
+sign-length false = zero-le
+
+-- a number as it is written may stand as a value
+pub record InValue (text : List ℕ) : Type 0 where
+  pub letters : AllOf valueLetter text
+  pub least : 1 ≤ length text
+  pub most : length text ≤ 32
+
+in-value : (minus : Bool) (n d : ℕ) → d ≤ 9 → InValue (textOf (decimalFor minus n d))
+in-value minus n d l =
+    let w = decimalFor minus n d in
+    let digits = w .whole ++ pointed (w .fraction) in
+    let a = length-append (signText minus) digits in
+    let b = length-append (w .whole) (pointed (w .fraction)) in
+    let c = sign-length minus in
+    let e = pointed-length (w .fraction) in
+    let f = last-length d n in
+    let g = decimal-short 10 (n / 10 ^ d) in
+    let h = decimal-some 9 (n / 10 ^ d) in
+    record {
+      letters =
+          each-append (λ b. valueLetter b ≡ true) (signText minus) digits (sign-in minus)
+          (each-append (λ b. valueLetter b ≡ true) (w .whole) (pointed (w .fraction)) (letters-in (w .whole) (decimal-digits 10 (n / 10 ^ d)))
+          (pointed-in (w .fraction) (last-digits d n)));
+      least = omega arith;
+      most = omega arith;
+    }
+
+written-in : (z : ℤ) (d : ℕ) → d ≤ 9 → InValue (writtenWith z d)
+written-in (pos n) d l = in-value false n d l
+written-in (negsuc n) d l = in-value true (suc n) d l
+
+-- the number of a data set's line is that of its value
+pub line-value : (d : DataSet) → IsDataSet d → (decimals : ℕ) → lineNumber (lineOf d) decimals ≡ wholeNumber (d .value) decimals
+unfolding lineNumber
+line-value d r decimals = rw (each-found d r, value-from d r, take-append-seam (d .value) (starred (d .unit) ++ (41 ∷ [])))
+
+pub line-read-back : LineReadBack
+line-read-back z decimals h l d r =
+    let i = written-in z decimals l in
+    line-value (record { address = d .address; value = writtenWith z decimals; unit = d .unit })
+    (record {
+      address-letters = r .address-letters;
+      address-length = r .address-length;
+      value-letters = i .letters;
+      value-length = (i .least, i .most);
+      unit-letters = r .unit-letters;
+      unit-length = r .unit-length;
+    })
+    decimals
+    ∙ number-read-back z decimals h l

@@ -8,7 +8,6 @@ use native.Mathlib.Omega.{arith}
 use borrow.Author.Tests.{le-leb, lt-leb, le-ltb}
 use lib.IntN.{ℤ, pos}
 use lib.ListN.{length, getD, take, length-map, length-take, length-reverse}
-use Rattle.laws.specs.Answers.{given, refused}
 use Rattle.laws.specs.Each.{Each}
 use Rattle.laws.proofs.Answers.{by-answer}
 use Rattle.laws.proofs.Tests.{by-test}

@@ -1,9 +1,7 @@
 -- CR 4 over histories: what data sets are answered, and what the registers show of them.
-use mathlib.Core.Path.{_≡_, refl, sym, ap, _∙_}
-use mathlib.Core.Bool.{true, false}
+use mathlib.Core.Path.{_≡_}
 use mathlib.Core.List.{List}
 use Prim.Native.Nat.{ℕ}
-use Rattle.laws.specs.Answers.{given, refused}
 use Rattle.laws.proofs.Answers.{by-answer}
 use Rattle.laws.proofs.Tests.{by-test}
 use Rattle.readout.specs.Answers.{lineNumber}

@@ -11,9 +11,9 @@ use lib.IntN.{ℤ}
 use Rattle.laws.specs.Answers.{Answer, given, refused}
 use Rattle.laws.proofs.Answers.{by-answer}
 use Rattle.laws.proofs.Tests.{by-test}
-use Rattle.readout.specs.DataSets.{AllOf, DataSet, IsDataSet, lineOf, valuePlace}
+use Rattle.readout.specs.DataSets.{DataSet, IsDataSet, lineOf, valuePlace}
 use Rattle.readout.specs.Numbers.{Decimal, most, signed, in32Bits, wholeNumber}
-use Rattle.readout.specs.Blocks.{notEtx, blockAround, isBlock}
+use Rattle.readout.specs.Blocks.{isBlock}
 use Rattle.readout.specs.Answers.{lineNumber, blockAnswer}
 use Rattle.readout.specs.Laws.{Sent}
 use Rattle.readout.proofs.Places.{only-17}

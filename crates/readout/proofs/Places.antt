@@ -1,5 +1,5 @@
 -- The place of a value (specs/DataSets.antt): what its tests come to, one after another; it stands within the line, and has a letter.
-use mathlib.Core.Path.{_≡_, refl, sym, ap, _∙_}
+use mathlib.Core.Path.{_≡_, refl}
 use mathlib.Core.Bool.{true, false, _&&_}
 use mathlib.Core.List.{List}
 use Prim.Native.Nat.{ℕ, _+_, _-_, _≤_, _<_}
@@ -9,7 +9,7 @@ use denote.Ref.{RefT}
 use lib.Dec.{leb, eqb}
 use lib.Seq.{length-take-le}
 use lib.ListN.{length, getD, take, drop, length-drop}
-use Rattle.laws.specs.Answers.{Answer, given, refused}
+use Rattle.laws.specs.Answers.{given, refused}
 use Rattle.laws.specs.If.{if_then_else_}
 use Rattle.laws.specs.Leading.{leading}
 use Rattle.laws.proofs.Answers.{by-answer}

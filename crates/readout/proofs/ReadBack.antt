@@ -3,22 +3,19 @@ use mathlib.Core.Path.{_≡_, refl, sym, ap, _∙_}
 use mathlib.Core.Bool.{Bool, true, false}
 use mathlib.Core.List.{List, [], _∷_, _++_}
 use Prim.Native.Nat.{ℕ, zero, suc, _+_, _-_, _*_, _/_, _%_, _^_, _≤_, _<_, suc-le-suc, zero-le}
-use native.Mathlib.Nat.{pow-suc, div-div-eq-div-mul, mul-comm, lt-trans, lt-of-le-of-lt, le-trans, div-le-self, div-one}
+use native.Mathlib.Nat.{pow-suc, div-div-eq-div-mul, mul-comm, lt-of-le-of-lt, div-le-self, div-one}
 use native.Mathlib.Omega.{arith}
 use borrow.Author.Tests.{le-leb, ne-eqb, ltb-true, ltb-false, leb-true}
 use lib.Dec.{ltb, leb, lit<}
-use lib.IntN.{ℤ, pos, negsuc, negℤ}
-use lib.ListN.{length, take, drop, length-append}
+use lib.IntN.{ℤ, pos, negsuc}
+use lib.ListN.{length, length-append}
 use lib.Seq.{take-append-seam}
-use Rattle.laws.specs.Answers.{given}
 use Rattle.laws.specs.Decimals.{isDigit, valueFrom, digit, decimalIn}
-use Rattle.laws.specs.Each.{Each}
-use Rattle.laws.specs.If.{if_then_else_}
 use Rattle.laws.proofs.Decimals.{value-append}
 use Rattle.laws.proofs.Each.{each-append, each-so}
 use Rattle.laws.proofs.Tests.{by-test, and-both, and-left, and-right}
 use Rattle.readout.specs.DataSets.{AllOf, DataSet, IsDataSet, starred, lineOf, valueLetter}
-use Rattle.readout.specs.Numbers.{Decimal, signText, pointed, textOf, IsDecimal, in32Bits, wholeNumber, Fits32, lastDigits, decimalFor, writtenWith}
+use Rattle.readout.specs.Numbers.{Decimal, signText, pointed, textOf, IsDecimal, wholeNumber, lastDigits, decimalFor, writtenWith}
 use Rattle.readout.specs.Answers.{lineNumber}
 use Rattle.readout.specs.Laws.{Written, NumberReadBack, LineReadBack}
 use Rattle.readout.proofs.Splits.{each-found, value-from}

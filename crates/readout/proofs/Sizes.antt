@@ -1,8 +1,8 @@
 -- The size of a number as the code finds it (specs/Held.antt) is that of its definition (specs/Numbers.antt), held: without a point, and with digits behind one.
 use mathlib.Core.Path.{_≡_, refl, sym, ap, _∙_}
-use mathlib.Core.Bool.{Bool, true, false, _&&_, true≢false}
+use mathlib.Core.Bool.{true, false, _&&_, true≢false}
 use mathlib.Core.List.{List, [], _∷_, _++_, append-nil}
-use Prim.Native.Nat.{ℕ, zero, suc, _+_, _-_, _*_, _/_, _%_, _^_, _≤_, _<_, min}
+use Prim.Native.Nat.{ℕ, _+_, _-_, _*_, _/_, _%_, _^_, _≤_, _<_, min}
 use native.Mathlib.Nat.{add-zero, mul-left-comm, add-mul, mul-assoc, mul-comm, mul-lt-mul-of-pos-right, mul-le-mul-left, mod-one, div-one, mul-mod-left, mul-div-cancel, mod-eq-of-lt, mul-add-mod-self-right, one-le-pow}
 use native.Mathlib.Omega.{arith}
 use borrow.Author.Tests.{lt-ltb, eq-eqb, ne-eqb, eqb-true, ltb-true, ltb-false}
@@ -10,16 +10,16 @@ use lib.Dec.{ltb, eqb}
 use lib.ListN.{length, getD, take, drop, length-take, length-drop, drop-of-length-le, take-append-drop}
 use lib.Pow.{pow-add}
 use lib.Seq.{take-all}
-use Rattle.laws.specs.Answers.{Answer, given, refused}
+use Rattle.laws.specs.Answers.{given, refused}
 use Rattle.laws.specs.Decimals.{isDigit, digits, valueFrom}
 use Rattle.laws.specs.Each.{Each}
 use Rattle.laws.specs.If.{if_then_else_}
 use Rattle.laws.specs.Leading.{leading}
 use Rattle.laws.proofs.Decimals.{value-append, value-split, value-below, value-zero, zeros-value, digits-each, each-digits}
-use Rattle.laws.proofs.Leading.{leading-all, leading-each, leading-most}
+use Rattle.laws.proofs.Leading.{leading-all, leading-each}
 use Rattle.laws.proofs.Each.{each-take, each-drop, each-append, each-so}
 use Rattle.laws.proofs.Tests.{by-test, and-left, and-right, and-both}
-use Rattle.readout.specs.Numbers.{beforePoint, behindPoint, isDecimal, sizeOf}
+use Rattle.readout.specs.Numbers.{isDecimal, sizeOf}
 use Rattle.readout.specs.Held.{held, digitsRead, allZeros, heldAnswer, heldSize, fractionSize}
 use Rattle.readout.specs.declared.numbers.Digits.{Digits}
 use Rattle.readout.proofs.Held.{held-digits, held-pow}

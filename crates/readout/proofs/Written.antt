@@ -2,26 +2,24 @@
 use mathlib.Core.Path.{_≡_, refl, sym, ap, _∙_}
 use mathlib.Core.Bool.{Bool, true, false, _&&_, _||_}
 use mathlib.Core.List.{List, [], _∷_, _++_, append-nil}
-use mathlib.Core.Logic.{_⊎_, inl, inr, ⊎-elim}
-use Prim.Native.Nat.{ℕ, suc, _+_, _-_, _*_, _/_, _%_, _^_, _≤_, _<_}
+use mathlib.Core.Logic.{_⊎_, inl, inr}
+use Prim.Native.Nat.{ℕ, _+_, _-_, _*_, _/_, _%_, _^_, _≤_}
 use native.Mathlib.Nat.{not-suc-le-zero, mul-mod-left, mul-div-cancel, one-le-pow, div-add-mod'}
-use native.Mathlib.Numerals.{add-one}
 use native.Mathlib.Omega.{arith}
 use borrow.Author.Tests.{lt-ltb, le-ltb, eq-eqb, ne-eqb, ltb-true, ltb-false, eqb-true, leb-true}
 use lib.Dec.{ltb, leb, eqb}
 use lib.ListN.{length, getD, take, drop, length-drop, take-append-drop, drop-of-length-le}
 use lib.Seq.{take-all, length-take-le, take-append-seam, drop-append-seam}
-use Rattle.laws.specs.Answers.{Answer, given, refused}
+use Rattle.laws.specs.Answers.{given, refused}
 use Rattle.laws.specs.Decimals.{isDigit, digits, valueFrom}
 use Rattle.laws.specs.Each.{Each}
-use Rattle.laws.specs.If.{if_then_else_}
 use Rattle.laws.specs.Leading.{leading}
 use Rattle.laws.proofs.Decimals.{digits-each, each-digits}
 use Rattle.laws.proofs.Leading.{leading-exactly, leading-all, leading-each, leading-most}
 use Rattle.laws.proofs.Suffixes.{head-at, next-at, length-at, at-letter}
-use Rattle.laws.proofs.Tests.{by-test, and-left, and-right, and-both, or-right}
+use Rattle.laws.proofs.Tests.{by-test, and-left, and-right, or-right}
 use Rattle.readout.specs.DataSets.{AllOf}
-use Rattle.readout.specs.Numbers.{Decimal, signText, pointed, textOf, IsDecimal, Is, hasMinus, unsigned, beforePoint, behindPoint, isDecimal, sizeOf, in32Bits, wholeNumber}
+use Rattle.readout.specs.Numbers.{Decimal, signText, pointed, hasMinus, unsigned, beforePoint, behindPoint, isDecimal, sizeOf, in32Bits, wholeNumber}
 use Rattle.readout.specs.Laws.{Written, NumberAsWritten}
 
 -- From what is written to its number

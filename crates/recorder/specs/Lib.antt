@@ -1,4 +1,4 @@
--- Document 01's paragraphs on samples, impulses, units, periods, bills and serial meters, and the load profile.
+-- Document 01's paragraphs on samples, impulses, units, periods, bills and serial meters, the load profile, and data sets that are booked.
 pub mod Meters
 pub mod Clock
 pub mod Profile

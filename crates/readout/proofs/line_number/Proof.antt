@@ -1,5 +1,5 @@
 -- `readout::line_number` meets its contract: an empty part is handed back exactly where the line is no data set.
-use mathlib.Core.Path.{_≡_, sym, ap, _∙_}
+use mathlib.Core.Path.{sym, ap, _∙_}
 use borrow.Author.Needs.{needs}
 use lib.ListN.{length}
 use Rattle.readout.specs.Numbers.{wholeNumber}

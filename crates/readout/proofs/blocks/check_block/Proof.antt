@@ -1,6 +1,5 @@
 -- `readout::blocks::check_block` meets its contract: by its tests.
-use mathlib.Core.Path.{_≡_, sym, ap, _∙_}
-use native.Mathlib.Omega.{arith}
+use mathlib.Core.Path.{sym, _∙_}
 use borrow.Author.Needs.{needs}
 use borrow.Author.Tests.{eq-eqb, ne-eqb}
 use Rattle.readout.proofs.Framed.{block-other, block-empty, block-length, block-check}

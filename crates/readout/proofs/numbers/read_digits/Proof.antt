@@ -1,17 +1,16 @@
 -- `readout::numbers::read_digits` meets its contract. The invariant: the digits in front are those before here and those in front from here on, and the number that they make is made of them.
 use mathlib.Core.Path.{_≡_, refl, sym, _∙_}
-use mathlib.Core.Bool.{true}
 use mathlib.Core.List.{List}
 use Prim.Native.Nat.{ℕ, _+_, _≤_, _-_}
 use native.Mathlib.Omega.{arith}
 use borrow.Author.Needs.{needs}
 use borrow.Author.Tests.{leb-true, not-true, not-false}
-use lib.ListN.{length, getD, drop}
+use lib.ListN.{length, drop}
 use Rattle.laws.specs.Decimals.{isDigit}
 use Rattle.laws.specs.Leading.{leading}
 use Rattle.laws.proofs.Leading.{leading-on, leading-stop, leading-end}
 use Rattle.laws.proofs.Tests.{and-left}
-use Rattle.readout.specs.Held.{held, digitsRead}
+use Rattle.readout.specs.Held.{digitsRead}
 use Rattle.readout.proofs.Held.{read-turn, read-stop, read-end}
 use Rattle.readout.proofs.numbers.read_digits.Statement.{statement}
 use Rattle.readout.proofs.numbers.read_digits.Tie as tie

@@ -3,11 +3,11 @@ use mathlib.Core.Path.{_≡_, sym, ap, _∙_}
 use mathlib.Core.Bool.{true, false}
 use mathlib.Core.List.{List}
 use Prim.Native.Nat.{ℕ}
-use Rattle.laws.specs.Answers.{Answer, given, refused}
+use Rattle.laws.specs.Answers.{given, refused}
 use Rattle.laws.proofs.Tests.{by-test}
 use Rattle.readout.specs.Answers.{blockAnswer, blockSaid}
 use Rattle.readout.specs.Blocks.{isBlock}
-use Rattle.recorder.specs.Readout.{readoutReply, blockReadoutReply}
+use Rattle.recorder.specs.Readout.{blockReadoutReply}
 use borrow.Author.Needs.{needs}
 use Rattle.recorder.proofs.Recorder.block_readout.Statement.{statement}
 use Rattle.recorder.proofs.Recorder.block_readout.Tie as tie

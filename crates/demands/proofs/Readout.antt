@@ -1,5 +1,5 @@
 -- CR 4 over histories: what data sets are answered, and what the registers show of them.
-use mathlib.Core.Path.{_≡_}
+use mathlib.Core.Path.{_≡_, sym, ap, _∙_}
 use mathlib.Core.List.{List}
 use Prim.Native.Nat.{ℕ}
 use Rattle.laws.proofs.Answers.{by-answer}
@@ -8,7 +8,7 @@ use Rattle.readout.specs.Answers.{lineNumber}
 use Rattle.readout.specs.Blocks.{isBlock}
 use Rattle.readout.proofs.Splits.{one-split}
 use Rattle.readout.proofs.Written.{number-as-written}
-use Rattle.readout.proofs.ReadBack.{number-read-back, line-read-back}
+use Rattle.readout.proofs.ReadBack.{number-read-back, line-read-back, line-value}
 use Rattle.readout.proofs.Framed.{block-around-bytes, one-byte-changed}
 use Rattle.recorder.specs.History.{Call, reading}
 use Rattle.recorder.specs.Readout.{readoutReply, blockReadoutReply}
@@ -16,10 +16,17 @@ use Rattle.recorder.specs.declared.Setup.{Setup}
 use Rattle.settings.specs.declared.Config.{Config}
 use Rattle.demands.specs.Demand2.{reached}
 use Rattle.demands.specs.Profile.{callsOf}
-use Rattle.demands.specs.Readout.{numberOfReadout, AnswersOfReadouts, RegistersOfSequence, MetersReadout}
+use Rattle.demands.specs.Readout.{numberOfReadout, SentIsRead, AnswersOfReadouts, RegistersOfSequence, MetersReadout}
 use Rattle.demands.proofs.Agrees.{answers-of-history}
 use Rattle.demands.proofs.Shown.{registers-of-history}
 use Rattle.demands.proofs.Profile.{reaches}
+
+-- a number that is written in a line is read from it
+sent-is-read : SentIsRead
+sent-is-read line decimals n w sent =
+    ap (λ l. lineNumber l decimals) (sym (sent .split))
+    ∙ line-value (sent .set) (sent .rules) decimals
+    ∙ number-as-written .each (sent .set .value) decimals n w (sent .decimals-most) (sent .number)
 
 -- a data set is answered with its number's refusal, or as its reading is
 module _ (setup : Setup) (lent : ℕ) (c : Config) (time : ℕ) (calls : List Call) (meter status seq decimals : ℕ) where
@@ -52,6 +59,7 @@ cr-4 =
       as-written = number-as-written;
       read-back = number-read-back;
       line-read-back = line-read-back;
+      sent-is-read = sent-is-read;
       blocks = block-around-bytes;
       one-byte-changed = one-byte-changed;
       answers = answers-of-readouts;

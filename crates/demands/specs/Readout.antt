@@ -9,7 +9,8 @@ use Rattle.laws.specs.Answers.{Answer, given, refused}
 use Rattle.laws.specs.If.{if_then_else_}
 use Rattle.readout.specs.Answers.{lineNumber}
 use Rattle.readout.specs.Blocks.{isBlock}
-use Rattle.readout.specs.Laws.{OneSplit, NumberAsWritten, NumberReadBack, LineReadBack, BlockAroundBytes, OneByteChanged}
+use Rattle.readout.specs.Laws.{Sent, OneSplit, NumberAsWritten, NumberReadBack, LineReadBack, BlockAroundBytes, OneByteChanged}
+use Rattle.readout.specs.Numbers.{Decimal, in32Bits}
 use Rattle.recorder.specs.Readout.{readoutReply, blockReadoutReply}
 use Rattle.registers.specs.Registers.{registerReply}
 use Rattle.settings.specs.declared.Config.{Config}
@@ -42,6 +43,10 @@ RegistersOfSequence =
     let reply = registerReply (afterSequence setup c time buffer sequence .recorder) group register result in
     reply .answer ≡ given n → reply .buffer ≡ shown c (accountOf c time (callsOf c time sequence)) group register ++ drop n result)
 
+-- whatever number is written in the value of a line, the line is read as that number with its sign, or is 19 where that does not fit
+abbrev pub SentIsRead : Type 0
+SentIsRead = (line : List ℕ) (decimals n : ℕ) (w : Decimal) → Sent line decimals n w → lineNumber line decimals ≡ in32Bits (w .minus) (given n)
+
 -- CR 4, in one
 pub record MetersReadout : Type 0 where
   -- the value text found is the only split of the line that meets the rules; LINE exactly if there is none
@@ -50,6 +55,7 @@ pub record MetersReadout : Type 0 where
   pub as-written : NumberAsWritten
   pub read-back : NumberReadBack
   pub line-read-back : LineReadBack
+  pub sent-is-read : SentIsRead
   -- a block is what stands around bytes, and any one byte of it changed makes it refused
   pub blocks : BlockAroundBytes
   pub one-byte-changed : OneByteChanged

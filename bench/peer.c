@@ -31,7 +31,8 @@ static uint32_t spread(uint32_t i) { return i * 2654435761u; }
 static void start(struct recorder *r) {
     memset(profile, 0, sizeof profile);
     peer_start(r, lent.length, slots, image, IMAGE_LENGTH, start_time);
-    for (int i = 0; i < METERS; i++) peer_reading(r, (uint32_t)i, i % 2 == 0 ? i : ~i, (uint32_t)i % 8, (uint32_t)i);
+    bool renewed;
+    for (int i = 0; i < METERS; i++) peer_reading(r, (uint32_t)i, i % 2 == 0 ? i : ~i, (uint32_t)i % 8, (uint32_t)i, &renewed);
 }
 
 static void write_registers(const struct recorder *r) {

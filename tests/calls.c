@@ -683,9 +683,17 @@ static unsigned some_status(void) {
   return percent(92) ? PICK(statuses) : PICK(far);
 }
 
-static unsigned some_seq(void) {
+/* The last SEQ that was sent for a meter, whether it was accepted or not. */
+static unsigned last_seq[256];
+
+/* The same SEQ again, the next one, or any. */
+static unsigned some_seq(unsigned meter) {
   static const unsigned far[] = {32, 33, 34, 64, 128, 255};
-  return percent(94) ? below(32) : PICK(far);
+  unsigned n = below(100);
+  if (n < 6) return PICK(far);
+  if (n >= 60) last_seq[meter] = below(32);
+  else if (n >= 40) last_seq[meter] = (last_seq[meter] + 1) % 32;
+  return last_seq[meter];
 }
 
 static unsigned some_meter(void) {
@@ -693,7 +701,7 @@ static unsigned some_meter(void) {
   return percent(95) ? below(METERS) : PICK(far);
 }
 
-static void reading_of(unsigned meter) { line("reading %u %d %u %u", meter, some_value(), some_status(), some_seq()); }
+static void reading_of(unsigned meter) { line("reading %u %d %u %u", meter, some_value(), some_status(), some_seq(meter)); }
 
 static void reading_call(void) {
   unsigned meter = some_meter();
@@ -704,8 +712,8 @@ static void reading_call(void) {
 /* A reading, or the meter's own readout, in a block or without one. The data set is good. */
 static void heard_of(unsigned meter) {
   switch (below(8)) {
-  case 0: line("readout %u %u %u 3 1.8.0(%06u.%03u*kWh)", meter, some_status(), some_seq(), below(1000000), below(1000)); break;
-  case 1: line("blockreadout %u %u %u 1 0242300371 16.7(-%u.%u*kW)", meter, some_status(), some_seq(), below(1000), below(10)); break;
+  case 0: line("readout %u %u %u 3 1.8.0(%06u.%03u*kWh)", meter, some_status(), some_seq(meter), below(1000000), below(1000)); break;
+  case 1: line("blockreadout %u %u %u 1 0242300371 16.7(-%u.%u*kW)", meter, some_status(), some_seq(meter), below(1000), below(10)); break;
   default: reading_of(meter); break;
   }
 }
@@ -749,6 +757,30 @@ static void back_call(void) {
   case 1: set(time + below(3) - 1); break;
   default: if (back > 0) samples(quiet(), (back < 4 ? back : 3) * 100 - below(2)); break;
   }
+  show_meter(meter);
+}
+
+/* A reading that is accepted, and the same SEQ again when the clock is at an edge of the limit, or was set back; perhaps a refused reading in between, and other SEQs after it. */
+static void repeat_call(void) {
+  unsigned meter = below(METERS), seq = below(32);
+  uint32_t time = clock_now;
+  line("reading %u %d 0 %u", meter, some_value(), seq);
+  set(percent(70) ? time + limit_of(meter) + below(3) - 1 : time > 60 ? time - below(60) : time);
+  if (percent(40)) line("reading %u %d %u %u", meter, some_value(), from_to(8, 255), percent(50) ? seq : below(32));
+  line("reading %u %d %u %u", meter, some_value(), below(8), seq);
+  show_meter(meter);
+  if (percent(30)) samples(quiet(), from_to(90, 110));
+  last_seq[meter] = seq;
+  heard_of(meter);
+  show_meter(meter);
+}
+
+/* A meter that counts its SEQ on, comes round after 32, and stays there. */
+static void round_call(void) {
+  unsigned meter = below(METERS), seq = below(32), last = 32 + below(8);
+  for (unsigned i = 0; i <= last; i++) line("reading %u %d %u %u", meter, some_value(), below(8), (seq + i) % 32);
+  if (percent(50)) set(clock_now + below(4));
+  for (unsigned i = from_to(1, 4); i > 0; i--) line("reading %u %d %u %u", meter, some_value(), below(8), (seq + last) % 32);
   show_meter(meter);
 }
 
@@ -1048,7 +1080,7 @@ static void block_line(void) {
 /* With a block or without; the data set in the block is the same, or another. */
 static void readout_line(unsigned meter, int with_block) {
   struct text t, set = {.length = 0}, other = {.length = 0}, block;
-  unsigned decimals = some_decimals(), status = some_status(), seq = some_seq();
+  unsigned decimals = some_decimals(), status = some_status(), seq = some_seq(meter);
   add_set(&set, decimals);
   add_set(&other, decimals);
   begin_text(&t, "%s %u %u %u %u ", with_block ? "blockreadout" : "readout", meter, status, seq, decimals);
@@ -1198,7 +1230,7 @@ static void odd_line(void) {
 }
 
 static void some_call(void) {
-  unsigned n = below(1140);
+  unsigned n = below(1173);
   if (n < 200) samples(some_bits(), 1);
   else if (n < 320) burst_call();
   else if (n < 400) run_call();
@@ -1221,7 +1253,9 @@ static void some_call(void) {
   else if (n < 1060) set_line();
   else if (n < 1090) readout_call(0);
   else if (n < 1110) block_line();
-  else readout_call(1);
+  else if (n < 1140) readout_call(1);
+  else if (n < 1170) repeat_call();
+  else round_call();
 }
 
 static void some_calls(unsigned long until) {

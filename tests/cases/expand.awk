@@ -5,11 +5,12 @@ function fail(what) { print FILENAME ":" FNR ": " what | "cat 1>&2"; failed = 1;
 
 function entry(text) { entries = entries text "\n" }
 
-# A call, with `ok` as its answer until another is given.
+# A call, with `ok` as its answer until another is given, and `renewed` where it is a reading.
 function call(text) {
   flush()
   waiting = text
-  answer = "ok"
+  answer = text ~ /^(reading|readout|blockreadout)/ ? "renewed" : "ok"
+  given = 0
 }
 
 function flush() {
@@ -41,7 +42,8 @@ $0 == "[calls]" || $0 == "[calls and looks]" {
 section == "image" { entry($0); next }
 section != "calls" { fail("neither an entry nor a call") }
 /^= / {
-  if (waiting == "" || answer != "ok") fail("an answer without a call")
+  if (waiting == "" || given) fail("an answer without a call")
+  given = 1
   answer = substr($0, 3)
   if (waiting ~ /^(register|record)/ && answer !~ /^refused/) gsub(/ /, "", answer)
   next

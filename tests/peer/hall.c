@@ -7,7 +7,6 @@
  */
 #include "recorder.h"
 
-#include <stdbool.h>
 #include <stdio.h>
 #include <string.h>
 
@@ -85,6 +84,13 @@ static void answer_fleet(void) {
     struct fleet f = peer_fleet(&recorder);
     printf("fitted %u awake %u stale %u invalid %u never %u sum %lld\n", f.fitted, f.count[AWAKE], f.count[STALE], f.count[INVALID], f.count[NEVER],
            (long long)f.sum);
+}
+
+static bool renewed; /* the stamp, by the last reading that was taken */
+
+static void answer_reading(uint32_t refusal) {
+    if (refusal != 0) answer(refusal);
+    else puts(renewed ? "renewed" : "kept");
 }
 
 static void answer_value(struct sent line, uint32_t decimals) {
@@ -207,7 +213,7 @@ static void reading_line(void) {
     int32_t v;
     if (words != 5) wrong_words("needs METER VALUE STATUS SEQ");
     else if (number(1, "METER", 255, &meter) && value(2, &v) && number(3, "STATUS", 255, &status) && number(4, "SEQ", 255, &seq))
-        answer(peer_reading(&recorder, meter, v, status, seq));
+        answer_reading(peer_reading(&recorder, meter, v, status, seq, &renewed));
 }
 
 static void data_set_line(void) {
@@ -220,7 +226,7 @@ static void readout_line(void) {
     uint32_t meter, status, seq, decimals;
     if (words < 6) wrong_words("needs METER STATUS SEQ DECIMALS TEXT");
     else if (number(1, "METER", 255, &meter) && number(2, "STATUS", 255, &status) && number(3, "SEQ", 255, &seq) && number(4, "DECIMALS", 255, &decimals))
-        answer(peer_readout(&recorder, meter, status, seq, decimals, text(5)));
+        answer_reading(peer_readout(&recorder, meter, status, seq, decimals, text(5), &renewed));
 }
 
 static void block_line(void) {
@@ -234,7 +240,7 @@ static void block_readout_line(void) {
     struct sent block;
     if (words < 7) wrong_words("needs METER STATUS SEQ DECIMALS HEX TEXT");
     else if (number(1, "METER", 255, &meter) && number(2, "STATUS", 255, &status) && number(3, "SEQ", 255, &seq) && number(4, "DECIMALS", 255, &decimals) && hex(5, &block))
-        answer(peer_block_readout(&recorder, meter, status, seq, decimals, block, text(6)));
+        answer_reading(peer_block_readout(&recorder, meter, status, seq, decimals, block, text(6), &renewed));
 }
 
 static void register_line(void) {

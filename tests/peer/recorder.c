@@ -1,7 +1,6 @@
 /* See recorder.h. A comment in quotation marks is a sentence of document 01, or of document 02 where it says so. */
 #include "recorder.h"
 
-#include <stdbool.h>
 #include <string.h>
 
 /* Where the sections of the image begin. */
@@ -413,11 +412,18 @@ uint32_t peer_samples(struct recorder *r, struct lent lent, const uint16_t *bits
 
 static uint32_t limit_of(const struct recorder *r, uint32_t meter) { return u16_at(r->config.image + LIMIT_AT + 2 * meter); }
 
-uint32_t peer_reading(struct recorder *r, uint32_t meter, int32_t value, uint32_t status, uint32_t seq) {
+/* Document 02: "A reading whose SEQ equals the stored one shall replace value and STATUS but keep the old stamp ... A first reading always renews." */
+uint32_t peer_reading(struct recorder *r, uint32_t meter, int32_t value, uint32_t status, uint32_t seq, bool *renewed) {
     if (meter >= METERS) return NO_METER;
     if (limit_of(r, meter) == 0) return NOT_FITTED;
     if (status > 7 || seq > 31) return READING;
-    r->meters[meter] = (struct meter){1, (uint8_t)status, (uint8_t)seq, r->clock, value};
+    struct meter *m = &r->meters[meter];
+    *renewed = m->read == 0 || m->seq != seq;
+    if (*renewed) m->stamp = r->clock;
+    m->read = 1;
+    m->seq = (uint8_t)seq;
+    m->status = (uint8_t)status;
+    m->value = value;
     return 0;
 }
 
@@ -525,15 +531,15 @@ uint32_t peer_block(struct sent block) {
 }
 
 /* Document 02: "Refusals, in this order: 16 BLOCK, 17 LINE, 18 NOT A NUMBER ..., 19 DOES NOT FIT 32 BITS, then those of a reading." */
-uint32_t peer_readout(struct recorder *r, uint32_t meter, uint32_t status, uint32_t seq, uint32_t decimals, struct sent line) {
+uint32_t peer_readout(struct recorder *r, uint32_t meter, uint32_t status, uint32_t seq, uint32_t decimals, struct sent line, bool *renewed) {
     struct value value;
     uint32_t refusal = peer_data_set(line, decimals, &value);
-    return refusal != 0 ? refusal : peer_reading(r, meter, value.number, status, seq);
+    return refusal != 0 ? refusal : peer_reading(r, meter, value.number, status, seq, renewed);
 }
 
-uint32_t peer_block_readout(struct recorder *r, uint32_t meter, uint32_t status, uint32_t seq, uint32_t decimals, struct sent block, struct sent line) {
+uint32_t peer_block_readout(struct recorder *r, uint32_t meter, uint32_t status, uint32_t seq, uint32_t decimals, struct sent block, struct sent line, bool *renewed) {
     uint32_t refusal = peer_block(block);
-    return refusal != 0 ? refusal : peer_readout(r, meter, status, seq, decimals, line);
+    return refusal != 0 ? refusal : peer_readout(r, meter, status, seq, decimals, line, renewed);
 }
 
 /* ---- Clock set and billing reset. */

@@ -1,5 +1,5 @@
 /*
- * Another recorder: the rules of document 01, of the change requests of document 02 that have landed (1 to 4) and the decided points, in plain C. It shares no code and no
+ * Another recorder: the rules of document 01, of the change requests of document 02 that have landed (1 to 5) and the decided points, in plain C. It shares no code and no
  * definition with the crates.
  *
  * It serves all comparisons: the program hall is compared with it on random calls, on stored answers and on the cases (hall.c beside this file reads the lines), the C
@@ -8,6 +8,7 @@
 #ifndef PEER_RECORDER_H
 #define PEER_RECORDER_H
 
+#include <stdbool.h>
 #include <stddef.h>
 #include <stdint.h>
 
@@ -103,8 +104,8 @@ uint32_t peer_start(struct recorder *r, size_t lent_length, const uint8_t slots[
 /* Takes samples to the first refusal, which it answers; 0 where all were taken. */
 uint32_t peer_samples(struct recorder *r, struct lent lent, const uint16_t *bits, size_t n, size_t *taken);
 
-/* The refusal, or 0. */
-uint32_t peer_reading(struct recorder *r, uint32_t meter, int32_t value, uint32_t status, uint32_t seq);
+/* A reading. The refusal, or 0; only with 0 it says whether the stamp was renewed, or kept. */
+uint32_t peer_reading(struct recorder *r, uint32_t meter, int32_t value, uint32_t status, uint32_t seq, bool *renewed);
 
 /* Reads a data set. The refusal, or 0; only with 0 is the value given. */
 uint32_t peer_data_set(struct sent line, uint32_t decimals, struct value *value);
@@ -112,11 +113,11 @@ uint32_t peer_data_set(struct sent line, uint32_t decimals, struct value *value)
 /* The refusal, or 0. */
 uint32_t peer_block(struct sent block);
 
-/* A data set booked as a reading. The refusal, or 0. */
-uint32_t peer_readout(struct recorder *r, uint32_t meter, uint32_t status, uint32_t seq, uint32_t decimals, struct sent line);
+/* A data set booked as a reading, and answered as one. */
+uint32_t peer_readout(struct recorder *r, uint32_t meter, uint32_t status, uint32_t seq, uint32_t decimals, struct sent line, bool *renewed);
 
-/* The same after the check of a block. That the line stands in the block is not asked. The refusal, or 0. */
-uint32_t peer_block_readout(struct recorder *r, uint32_t meter, uint32_t status, uint32_t seq, uint32_t decimals, struct sent block, struct sent line);
+/* The same after the check of a block. That the line stands in the block is not asked. */
+uint32_t peer_block_readout(struct recorder *r, uint32_t meter, uint32_t status, uint32_t seq, uint32_t decimals, struct sent block, struct sent line, bool *renewed);
 
 /* The refusal, or 0. */
 uint32_t peer_set_clock(struct recorder *r, struct lent lent, uint32_t time);

@@ -21,13 +21,14 @@ use Rattle.lines.specs.declared.Parameter.the-variants as parameter
 use Rattle.calendar.specs.declared.Moment.{Moment}
 use Rattle.registers.specs.declared.fleet.Fleet.{Fleet}
 use Rattle.readout.specs.DataSets.{Place}
+use Rattle.recorder.specs.Meters.{Stamping, renewed, kept}
 use Rattle.image.specs.Answers.{imageAnswer}
 use Rattle.answers.specs.declared.Text.{Text}
 use Rattle.answers.specs.Texts.{withByte, withBytes, asText}
 use Rattle.laws.specs.Decimals.{decimalIn}
 use Rattle.answers.specs.Numbers.{decimalOf, decimalSigned, hexOf}
 use Rattle.answers.specs.Errors.{wordsText, numbersText, mistakeText}
-use Rattle.answers.specs.Answers.{lineEnd, okLine, refusedLine, refusedAt, refusedAfter, startLine, registerLine, recordLine, imagePart, blockLine, valueLine, dataSetLine, weekdayName, dateLine, fleetLine, errorLine}
+use Rattle.answers.specs.Answers.{lineEnd, okLine, refusedLine, refusedAt, refusedAfter, readingLine, startLine, registerLine, recordLine, imagePart, blockLine, valueLine, dataSetLine, weekdayName, dateLine, fleetLine, errorLine}
 use Rattle.answers.specs.Laws.{TextIs, Fits, NoneCut, EmptyLine, partsFrom, PartsJoin}
 
 -- letters with zeros behind them
@@ -168,6 +169,12 @@ image-short (given u) image from =
     (λ e. simp (length-append, hex-length, length-take) (omega arith)) (λ e. simp (length-append, hex-length, length-take) (omega arith))
 image-short (refused n offset) image from = if-cases Fits (eqb from 0) (λ e. at-short n offset) (λ e. omega arith)
 
+reading-short : (a : Answer Stamping) → Fits (readingLine a)
+unfolding letters
+reading-short (given renewed) = omega arith
+reading-short (given kept) = omega arith
+reading-short (refused n offset) = refused-short n
+
 block-short : (a : Answer (Unit {0})) → Fits (blockLine a)
 block-short (given u) = ok-short
 block-short (refused n offset) = refused-short n
@@ -201,6 +208,7 @@ none-cut =
       register = register-short;
       profile-record = record-short;
       image = image-short;
+      reading = reading-short;
       block = block-short;
       data-set = data-set-short;
       date = date-short;

@@ -11,6 +11,7 @@ use Rattle.lines.specs.declared.Mistake.{Mistake}
 use Rattle.calendar.specs.declared.Moment.{Moment}
 use Rattle.registers.specs.declared.fleet.Fleet.{Fleet}
 use Rattle.readout.specs.DataSets.{Place}
+use Rattle.recorder.specs.Meters.{Stamping, renewed, kept}
 use Rattle.answers.specs.Errors.{mistakeText}
 use Rattle.answers.specs.Numbers.{decimalOf, decimalSigned, twoDigits, hexOf}
 
@@ -37,6 +38,12 @@ refusedAfter n k = letters "refused " ++ (decimalOf n ++ (letters " after " ++ (
 -- the line of document 01's number of a call; 0 is none
 abbrev pub numberLine : ℕ → List ℕ
 numberLine n = if eqb n 0 then okLine else refusedLine n
+
+-- the line of a reading: what became of the stamp, or the refusal
+abbrev pub readingLine : Answer Stamping → List ℕ
+readingLine (given renewed) = letters "renewed" ++ lineEnd
+readingLine (given kept) = letters "kept" ++ lineEnd
+readingLine (refused n offset) = refusedLine n
 
 -- the line of samples: the number of the refusal, or 0, and how many were taken
 abbrev pub samplesLine : ℕ → ℕ → List ℕ

@@ -10,9 +10,10 @@ use Rattle.lines.specs.declared.Mistake.{Mistake}
 use Rattle.calendar.specs.declared.Moment.{Moment}
 use Rattle.image.specs.Answers.{imageAnswer}
 use Rattle.readout.specs.DataSets.{Place}
+use Rattle.recorder.specs.Meters.{Stamping}
 use Rattle.registers.specs.declared.fleet.Fleet.{Fleet}
 use Rattle.answers.specs.Texts.{asText}
-use Rattle.answers.specs.Answers.{lineEnd, numberLine, samplesLine, startLine, registerLine, recordLine, imageLine, imagePart, blockLine, dataSetLine, dateLine, fleetLine, errorLine}
+use Rattle.answers.specs.Answers.{lineEnd, numberLine, readingLine, samplesLine, startLine, registerLine, recordLine, imageLine, imagePart, blockLine, dataSetLine, dateLine, fleetLine, errorLine}
 
 -- a text of at most 256 letters is the letters, with zeros behind them
 abbrev pub TextIs : Type 0
@@ -25,6 +26,7 @@ Fits l = length l ≤ 256
 -- no line is cut
 pub record NoneCut : Type 0 where
   pub number : (n : ℕ) → Fits (numberLine n)
+  pub reading : (a : Answer Stamping) → Fits (readingLine a)
   pub samples : (n k : ℕ) → Fits (samplesLine n k)
   pub start : (a : Answer (Unit {0})) → Fits (startLine a)
   pub register : (a : Answer ℕ) (bytes : List ℕ) → length bytes ≡ 13 → Fits (registerLine a bytes)

@@ -39,7 +39,7 @@ ghost use Rattle.profile.specs.Reading.{recordSaid};
 ghost use Rattle.registers.specs.Registers.{registerSaid};
 ghost use Rattle.answers.specs.Texts.{withBytes, asText};
 ghost use Rattle.answers.specs.Numbers.{decimalOf, hexOf};
-ghost use Rattle.answers.specs.Answers.{okLine, refusedLine, refusedAt, refusedAfter, numberLine, samplesLine, startLine, registerLine, recordLine, imagePart, blockLine, valueLine, dataSetLine, lineEnd, dateLine, classesText, fleetLine, errorLine};
+ghost use Rattle.answers.specs.Answers.{okLine, refusedLine, refusedAt, refusedAfter, numberLine, readingLine, samplesLine, startLine, registerLine, recordLine, imagePart, blockLine, valueLine, dataSetLine, lineEnd, dateLine, classesText, fleetLine, errorLine};
 
 // A text of at most 256 letters: the first `length` bytes, and zeros behind them.
 pub struct Text {
@@ -128,10 +128,11 @@ pub fn set_line(answer: SetAnswer) -> Text
 }
 
 pub fn reading_line(answer: ReadingAnswer) -> Text
-    ensures { λ r. ⌜ r ≡ asText (numberLine (readingNumber answer)) ⌝ }
+    ensures { λ r. ⌜ r ≡ asText (readingLine (readingNumber answer)) ⌝ }
 {
     match answer {
-        ReadingAnswer::Booked => ok(),
+        ReadingAnswer::Renewed => with_bytes(texts::blank(), b"renewed\n"),
+        ReadingAnswer::Kept => with_bytes(texts::blank(), b"kept\n"),
         ReadingAnswer::NoMeter => refused(7),
         ReadingAnswer::NotFitted => refused(8),
         ReadingAnswer::BadReading => refused(10),
@@ -139,7 +140,7 @@ pub fn reading_line(answer: ReadingAnswer) -> Text
 }
 
 pub fn readout_line(answer: ReadoutAnswer) -> Text
-    ensures { λ r. ⌜ r ≡ asText (numberLine (readoutNumber answer)) ⌝ }
+    ensures { λ r. ⌜ r ≡ asText (readingLine (readoutNumber answer)) ⌝ }
 {
     match answer {
         ReadoutAnswer::Block => refused(16),

@@ -11,7 +11,7 @@ use lib.IntN.{ℤ}
 use lib.ListN.{length, getD, set as setList, length-set, length-replicate, getD-replicate}
 use lib.Seq.{getD-set-same, getD-set-other}
 use borrow.Author.Tests.{ltb-true, ltb-false, leb-true, leb-false, eq-eqb, ne-eqb, eqb-true, eqb-false}
-use Rattle.laws.specs.Answers.{replyTo}
+use Rattle.laws.specs.Answers.{numberIn, replyTo}
 use Rattle.laws.specs.If.{if_then_else_}
 use Rattle.laws.proofs.Tests.{by-test}
 use Rattle.laws.specs.Any.{any}
@@ -27,18 +27,17 @@ use Rattle.counting.specs.Bills.{billAt, sumOf, bookedOf}
 use Rattle.sampling.specs.Periods.{multiple, begunAnew, tickOf}
 use Rattle.sampling.specs.Samples.{activeAt, bookingOf, bookingOn, countedOf, clockEnd, sampleOf}
 use Rattle.recorder.specs.Clock.{setTo, setOf, closedBill, resetOf}
-use Rattle.recorder.specs.Meters.{readingOf}
+use Rattle.recorder.specs.Meters.{renewed, kept, meterAt, stampingOf, readingAnswer, stampAs, readingOf}
 use Rattle.recorder.specs.Calls.{freshState}
 use Rattle.recorder.specs.History.{Call, sample, set as set-call, reading, reset, afterAll}
 use Rattle.recorder.specs.declared.Setup.{Setup}
-use Rattle.registers.specs.Fleet.{meterAt}
 use Rattle.counting.specs.declared.Line.{Line}
 use Rattle.counting.specs.declared.Bill.{Bill}
 use Rattle.sampling.specs.declared.State.{State}
 use Rattle.calendar.proofs.Moments.{dated-or-not}
 use Rattle.counting.proofs.Lines.{passed, brings, passed-run, passed-rejected, passed-remainder}
 use Rattle.recorder.proofs.Sound.{cleared-at, config-stays}
-use Rattle.demands.specs.Account.{Entry, took, ended, cleared as cleared-entry, heard, Sample, Account, runOf, endsRun, inRange, sampleOn, always, impulsesOf, rejectedIn, whole, inUse, booksAt, feeding, amountOf, lastReading, nextSample, dueTo, overfull, numberOfSample, numberOfDate, numberOfReading, stepped, counted, withCall, accountOf}
+use Rattle.demands.specs.Account.{Entry, took, ended, cleared as cleared-entry, heard, Heard, readingsOf, renews, leftBy, Sample, Account, runOf, endsRun, inRange, sampleOn, always, impulsesOf, rejectedIn, whole, inUse, booksAt, feeding, amountOf, lastReading, nextSample, dueTo, overfull, numberOfSample, numberOfReading, stepped, counted, withCall, accountOf}
 use Rattle.demands.specs.State.{billIn, meterIn}
 use Rattle.demands.specs.Demand2.{reached, AnswersOfHistory}
 use Rattle.demands.proofs.Units.{leftOver, units-step, left-step}
@@ -250,7 +249,7 @@ sample-agrees c s a bits old =
 
 -- A clock set
 
-pub set-number : (c : Config) (s : State) (seconds : ℕ) → replyTo s (setOf c s seconds) .number ≡ numberOfDate (momentOf seconds)
+pub set-number : (c : Config) (s : State) (seconds : ℕ) → replyTo s (setOf c s seconds) .number ≡ numberIn (momentOf seconds)
 unfolding setOf
 set-number c s seconds = ⊎-elim (λ d. rw (d .1)) (λ e. rw e) (dated-or-not seconds)
 
@@ -275,23 +274,38 @@ set-agrees c s a seconds old =
 
 -- A reading
 
-pub reading-number : (c : Config) (s : State) (meter : ℕ) (v : ℤ) (status seq : ℕ) → replyTo s (readingOf c s meter v status seq) .number ≡ numberOfReading c meter status seq
-unfolding readingOf numberOfReading
+pub reading-number : (c : Config) (s : State) (meter : ℕ) (v : ℤ) (status seq : ℕ) → numberIn (readingOf c s meter v status seq .answer) ≡ numberOfReading c meter status seq
+unfolding readingAnswer numberOfReading
 reading-number c s meter v status seq =
     by-test (ltb 31 meter) (λ t. rw t)
     (λ f.
     by-test (eqb (getD (c .limits) meter 0) 0) (λ t. rw (f, t))
     (λ g. by-test (ltb 7 status || ltb 31 seq) (λ t. rw (f, g, t)) (λ h. rw (f, g, h))))
 
+-- what becomes of the stamp: the stored SEQ is that of the reading before
+pub stamping-is : (h : List Heard) (seq : ℕ) → stampingOf (meterIn (leftBy h)) seq ≡ (if renews seq h then renewed else kept)
+unfolding stampingOf
+stamping-is [] seq = refl
+stamping-is (last ∷ earlier) seq = by-test (eqb (last .seq) seq) (λ t. rw t) (λ f. rw f)
+
+-- and the meter after it
+left-is : (h : List Heard) (second : ℕ) (v : ℤ) (status seq : ℕ)
+    → record { read = true; stamp = stampAs (stampingOf (meterIn (leftBy h)) seq) (meterIn (leftBy h)) second; value = v; status = status; seq = seq }
+    ≡ meterIn (leftBy (record { second = second; value = v; status = status; seq = seq } ∷ h))
+left-is [] second v status seq = rw (stamping-is [] seq)
+left-is (last ∷ earlier) second v status seq = rw (stamping-is (last ∷ earlier) seq) (by-test (eqb (last .seq) seq) (λ t. rw t) (λ f. rw f))
+
 -- the meters with a reading
 heard-meter : (c : Config) (s : State) (a : Account) (meter : ℕ) (v : ℤ) (status seq i : ℕ) → Agrees c s a → meter < 32 → i < 32
-    → meterAt (setList (s .meters) meter (record { read = true; stamp = s .clock; value = v; status = status; seq = seq })) i
+    → let m = meterAt (s .meters) meter in
+    meterAt (setList (s .meters) meter (record { read = true; stamp = stampAs (stampingOf m seq) m (s .clock); value = v; status = status; seq = seq })) i
     ≡ meterIn (lastReading (heard (a .time .second) meter v status seq ∷ a .journal) i)
 heard-meter c s a meter v status seq i old m l =
     by-test (eqb meter i)
     (λ t.
     let there : meter < length (s .meters) = omega (arith, old .all-meters) in
-    rw (t, ← eqb-true meter i t, ← old .clock) (getD-set-same (s .meters) meter _ _ there))
+    rw (t, ← eqb-true meter i t, ← old .clock)
+    (getD-set-same (s .meters) meter _ _ there ∙ rw (old .meters meter m) (left-is (readingsOf (a .journal) meter) (s .clock) v status seq)))
     (λ f. rw f (getD-set-other (s .meters) meter i _ _ (λ e. eqb-false meter i f (sym e)) ∙ old .meters i l))
 
 heard-bill : (c : Config) (journal : List Entry) (stamp meter : ℕ) (v : ℤ) (status seq j : ℕ) → billIn c (heard stamp meter v status seq ∷ journal) j ≡ billIn c journal j
@@ -299,8 +313,8 @@ unfolding billIn amountOf
 heard-bill c journal stamp meter v status seq j = refl
 
 reading-agrees : (c : Config) (s : State) (a : Account) (meter : ℕ) (v : ℤ) (status seq : ℕ) → Agrees c s a
-    → Agrees c (replyTo s (readingOf c s meter v status seq) .after) (withCall c a (reading meter v status seq))
-unfolding readingOf numberOfReading withCall
+    → Agrees c (readingOf c s meter v status seq .after) (withCall c a (reading meter v status seq))
+unfolding readingAnswer numberOfReading withCall
 reading-agrees c s a meter v status seq old =
     by-test (ltb 31 meter) (λ t. rw t old)
     (λ f.
@@ -372,7 +386,7 @@ fresh-agrees c time =
 abbrev pub stateAfter : Config → State → Call → State
 stateAfter c s (sample bits) = replyTo s (sampleOf c s bits) .after
 stateAfter c s (set-call seconds) = replyTo s (setOf c s seconds) .after
-stateAfter c s (reading meter v status seq) = replyTo s (readingOf c s meter v status seq) .after
+stateAfter c s (reading meter v status seq) = readingOf c s meter v status seq .after
 stateAfter c s reset = resetOf c s
 
 call-agrees : (c : Config) (s : State) (a : Account) (call : Call) → Agrees c s a → Agrees c (stateAfter c s call) (withCall c a call)
@@ -412,6 +426,6 @@ module _ (setup : Setup) (lent : ℕ) where
   answers-of-history c time calls (set-call seconds) = set-number (reached setup lent c time calls .config) (reached setup lent c time calls .state) seconds
   answers-of-history c time calls (reading meter v status seq) =
       let s = reached setup lent c time calls .state in
-      subst (λ (k : Config). replyTo s (readingOf k s meter v status seq) .number ≡ numberOfReading c meter status seq) (sym (config-stays setup lent c time calls))
+      subst (λ (k : Config). numberIn (readingOf k s meter v status seq .answer) ≡ numberOfReading c meter status seq) (sym (config-stays setup lent c time calls))
       (reading-number c s meter v status seq)
   answers-of-history c time calls reset = refl

@@ -1,6 +1,6 @@
 -- Quiet meters after the clock went back: what the classes, the registers and the samples do to a stamp that is ahead.
 use mathlib.Core.Path.{_≡_, refl, sym, ap, fun-ext, _∙_}
-use mathlib.Core.Bool.{Bool, true, false, not, _&&_, _||_, cond}
+use mathlib.Core.Bool.{Bool, true, false, true≢false, not, _&&_, _||_, cond}
 use mathlib.Core.List.{List, [], _∷_, _++_}
 use Prim.Native.Nat.{ℕ, _+_, _*_, _/_, _%_, _<_, _≤_}
 use native.Mathlib.Omega.{arith}
@@ -11,6 +11,7 @@ use lib.ListN.{length, getD, drop}
 use mir.Syntax.{w32}
 use mir.Val.{ofZ}
 use Rattle.laws.proofs.Tests.{by-test}
+use Rattle.laws.specs.Answers.{Answer, given, refused}
 use Rattle.laws.specs.Bytes.{bytesOf}
 use Rattle.laws.specs.Counts.{countOf}
 use Rattle.laws.specs.Masks.{bit}
@@ -20,11 +21,11 @@ use Rattle.laws.proofs.Total.{total-cong, total-plus, total-one}
 use Rattle.settings.specs.declared.Config.{Config}
 use Rattle.sampling.specs.Periods.{multiple}
 use Rattle.recorder.specs.History.{Call, sample, reading}
-use Rattle.recorder.specs.Meters.{classOf, ageOf}
+use Rattle.recorder.specs.Meters.{classOf, ageOf, meterAt, Stamping, renewed, kept}
 use Rattle.recorder.specs.declared.Setup.{Setup}
-use Rattle.registers.specs.Fleet.{meterAt, fleetOf}
+use Rattle.registers.specs.Fleet.{fleetOf}
 use Rattle.registers.specs.declared.fleet.Fleet.{Fleet}
-use Rattle.demands.specs.Account.{Time, Account, heard, lastReading, numberOfSample, numberOfReading, answerOf, stepped, counted, withCall, accountOf}
+use Rattle.demands.specs.Account.{Time, Entry, Account, heard, readingsOf, renews, lastReading, numberOfSample, numberOfReading, answerOfReading, answerOf, stepped, counted, withCall, accountOf}
 use Rattle.demands.specs.Shown.{awakeIn, fleetIn, serialShown, shown}
 use Rattle.demands.specs.Starts.{Accepted}
 use Rattle.demands.specs.Demand2.{reached, withSamples}
@@ -53,7 +54,7 @@ ahead-is-marked r meter buffer n e ahead =
     (rw (lt-ltb (r .state .clock) (m .stamp) ahead) (asleep (eqb limit 0) (m .read) (ltb (m .stamp + limit) (r .state .clock)) (eqb (m .status % 2) 1)))
 
 -- the awake are the fresh
-fresh-awake : (c : Config) (a : Account) (i : ℕ) → awakeIn c a i ≡ freshIn c a i
+pub fresh-awake : (c : Config) (a : Account) (i : ℕ) → awakeIn c a i ≡ freshIn c a i
 unfolding awakeIn freshIn aheadIn pastIn
 fresh-awake c a i =
     let m = lastReading (a .journal) i in
@@ -84,9 +85,9 @@ hundredths t = 100 * t .second + t .samples
 
 pub record Later (n : ℕ) (a b : Account) : Type 0 where
   pub clock : hundredths (b .time) ≤ hundredths (a .time) + n
-  pub readings : (i : ℕ) → lastReading (b .journal) i ≡ lastReading (a .journal) i
+  pub readings : (i : ℕ) → readingsOf (b .journal) i ≡ readingsOf (a .journal) i
 
-one-later : (c : Config) (a : Account) (bits : ℕ) → Later 1 a (withCall c a (sample bits))
+pub one-later : (c : Config) (a : Account) (bits : ℕ) → Later 1 a (withCall c a (sample bits))
 unfolding withCall counted stepped
 one-later c a bits =
     by-test (eqb (numberOfSample c a bits) 0)
@@ -126,15 +127,25 @@ either true true false true h = refl
 either true true false false h = refl
 
 -- how many are stale
-abbrev staleCount : Config → Account → ℕ
+abbrev pub staleCount : Config → Account → ℕ
 staleCount c a = total 32 (λ i. bit (aheadIn c a i) + bit (pastIn c a i))
 
--- a reading that is taken is one of a meter that is there and fitted
-record Taken (c : Config) (meter : ℕ) : Type 0 where
-  there : meter < 32
-  fitted : eqb (getD (c .limits) meter 0) 0 ≡ false
+-- answers told apart
+abbrev pub isGiven : Answer Stamping → Bool
+isGiven (given x) = true
+isGiven (refused n offset) = false
 
-taken-is : (c : Config) (meter status seq : ℕ) → numberOfReading c meter status seq ≡ 0 → Taken c meter
+abbrev pub isKept : Answer Stamping → Bool
+isKept (given renewed) = false
+isKept (given kept) = true
+isKept (refused n offset) = false
+
+-- a reading that is taken is one of a meter that is there and fitted
+pub record Taken (c : Config) (meter : ℕ) : Type 0 where
+  pub there : meter < 32
+  pub fitted : eqb (getD (c .limits) meter 0) 0 ≡ false
+
+pub taken-is : (c : Config) (meter status seq : ℕ) → numberOfReading c meter status seq ≡ 0 → Taken c meter
 unfolding numberOfReading
 taken-is c meter status seq e =
     by-test (ltb 31 meter) (λ t. absurd (omega (arith, rw t at e)))
@@ -142,16 +153,46 @@ taken-is c meter status seq e =
     by-test (eqb (getD (c .limits) meter 0) 0) (λ t. absurd (omega (arith, rw (f, t) at e)))
     (λ g. record { there = omega (arith, ltb-false 31 meter f); fitted = g }))
 
+-- one that renews the stamp, or keeps it, is taken
+renewed-is : (c : Config) (journal : List Entry) (meter status seq : ℕ) → answerOfReading c journal meter status seq ≡ given renewed
+    → (numberOfReading c meter status seq ≡ 0) × (renews seq (readingsOf journal meter) ≡ true)
+unfolding answerOfReading
+renewed-is c journal meter status seq e =
+    by-test (eqb (numberOfReading c meter status seq) 0)
+    (λ t.
+    by-test (renews seq (readingsOf journal meter)) (λ fresh. (eqb-true _ _ t, fresh)) (λ f. absurd (true≢false (ap isKept (rw (t, f) at e)))))
+    (λ f. absurd (true≢false (sym (ap isGiven (rw f at e)))))
+
+pub kept-is : (c : Config) (journal : List Entry) (meter status seq : ℕ) → answerOfReading c journal meter status seq ≡ given kept
+    → (numberOfReading c meter status seq ≡ 0) × (renews seq (readingsOf journal meter) ≡ false)
+unfolding answerOfReading
+kept-is c journal meter status seq e =
+    by-test (eqb (numberOfReading c meter status seq) 0)
+    (λ t.
+    by-test (renews seq (readingsOf journal meter)) (λ r. absurd (true≢false (sym (ap isKept (rw (t, r) at e))))) (λ f. (eqb-true _ _ t, f)))
+    (λ f. absurd (true≢false (sym (ap isGiven (rw f at e)))))
+
 -- and is entered
-entered-is : (c : Config) (a : Account) (meter : ℕ) (value : ℤ) (status seq : ℕ) → answerOf c a (reading meter value status seq) ≡ 0
+pub entered-is : (c : Config) (a : Account) (meter : ℕ) (value : ℤ) (status seq : ℕ) → answerOf c a (reading meter value status seq) ≡ 0
     → withCall c a (reading meter value status seq) ≡ record { time = a .time; journal = heard (a .time .second) meter value status seq ∷ a .journal }
 unfolding withCall
 entered-is c a meter value status seq e = rw e
 
-module _ (c : Config) (a : Account) (meter : ℕ) (value : ℤ) (status seq : ℕ) (taken : Taken c meter) where
+module _ (c : Config) (a : Account) (meter : ℕ) (value : ℤ) (status seq : ℕ) where
   -- the account with the reading entered
-  abbrev read : Account
+  abbrev pub read : Account
   read = record { time = a .time; journal = heard (a .time .second) meter value status seq ∷ a .journal }
+
+  -- all other meters are as they were
+  pub others-read : (j : ℕ) → (j ≡ meter → ⊥) → (aheadIn c a j ≡ aheadIn c read j) × (pastIn c a j ≡ pastIn c read j)
+  unfolding aheadIn pastIn
+  others-read j other = let no = ne-eqb meter j (λ e. other (sym e)) in (rw no, rw no)
+
+-- one that renewed the stamp
+module _ (c : Config) (a : Account) (meter : ℕ) (value : ℤ) (status seq : ℕ) (taken : Taken c meter) (fresh : renews seq (readingsOf (a .journal) meter) ≡ true) where
+  -- the account with it
+  abbrev renewing : Account
+  renewing = read c a meter value status seq
 
   abbrev now : ℕ
   now = a .time .second
@@ -163,31 +204,26 @@ module _ (c : Config) (a : Account) (meter : ℕ) (value : ℤ) (status seq : �
   no-past : ltb (now + getD (c .limits) meter 0) now ≡ false
   no-past = le-ltb (now + getD (c .limits) meter 0) now (omega arith)
 
-  ahead-read : aheadIn c read meter ≡ false
+  ahead-read : aheadIn c renewing meter ≡ false
   unfolding aheadIn
-  ahead-read = rw (eq-eqb meter meter refl, taken .fitted, no-ahead)
+  ahead-read = rw (eq-eqb meter meter refl, fresh, taken .fitted, no-ahead)
 
-  past-read : pastIn c read meter ≡ false
+  past-read : pastIn c renewing meter ≡ false
   unfolding pastIn
-  past-read = rw (eq-eqb meter meter refl, taken .fitted, no-past)
+  past-read = rw (eq-eqb meter meter refl, fresh, taken .fitted, no-past)
 
-  awake-read : awakeIn c read meter ≡ not (eqb (status % 2) 1)
+  awake-read : awakeIn c renewing meter ≡ not (eqb (status % 2) 1)
   unfolding awakeIn
-  awake-read = rw (eq-eqb meter meter refl, taken .fitted, no-ahead, no-past)
+  awake-read = rw (eq-eqb meter meter refl, fresh, taken .fitted, no-ahead, no-past)
 
-  -- all other meters are as they were
-  others-read : (j : ℕ) → (j ≡ meter → ⊥) → (aheadIn c a j ≡ aheadIn c read j) × (pastIn c a j ≡ pastIn c read j)
-  unfolding aheadIn pastIn
-  others-read j other = let no = ne-eqb meter j (λ e. other (sym e)) in (rw no, rw no)
-
-  stale-read : staleCount c a ≡ staleCount c read + (bit (aheadIn c a meter) + bit (pastIn c a meter))
-  stale-read = total-one 32 _ _ meter _ (taken .there) (rw (ahead-read, past-read) (omega arith)) (λ j l other. rw (others-read j other .0, others-read j other .1))
+  stale-read : staleCount c a ≡ staleCount c renewing + (bit (aheadIn c a meter) + bit (pastIn c a meter))
+  stale-read = total-one 32 _ _ meter _ (taken .there) (rw (ahead-read, past-read) (omega arith)) (λ j l other. rw (others-read c a meter value status seq j other .0, others-read c a meter value status seq j other .1))
 
   -- IV is shown where it was sent
-  shown-read : shown c read 82 meter ≡ bytesOf 4 now ++ (bytesOf 4 (ofZ w32 value) ++ (bytesOf 1 status ++ bytesOf 1 seq))
+  shown-read : shown c renewing 82 meter ≡ bytesOf 4 now ++ (bytesOf 4 (ofZ w32 value) ++ (bytesOf 1 status ++ bytesOf 1 seq))
   unfolding shown
   shown-read =
-      rw (eq-eqb meter meter refl, awake-read)
+      rw (eq-eqb meter meter refl, awake-read, fresh)
       (by-test (eqb (status % 2) 1)
       (λ marked. let same : status / 2 * 2 + 1 ≡ status = omega (arith, eqb-true (status % 2) 1 marked) in rw (marked, same))
       (λ clear. rw clear))
@@ -200,7 +236,7 @@ module _ (setup : Setup) (lent : ℕ) where
       registers-of-history setup lent c accepted time calls 82 meter buffer n answered
       ∙ ap (λ (awake : Bool). serialShown (lastReading (a .journal) meter) awake ++ drop n buffer) (ahead-asleep c a meter ahead)
 
-  stale-is : (c : Config) → Accepted c → (time : ℕ) (calls : List Call) → fleetOf (reached setup lent c time calls) .stale ≡ staleCount c (accountOf c time calls)
+  pub stale-is : (c : Config) → Accepted c → (time : ℕ) (calls : List Call) → fleetOf (reached setup lent c time calls) .stale ≡ staleCount c (accountOf c time calls)
   unfolding fleetIn aheadIn pastIn
   stale-is c accepted time calls =
       let a = accountOf c time calls in
@@ -228,18 +264,19 @@ module _ (setup : Setup) (lent : ℕ) where
   read-again c accepted time calls meter value status seq e =
       let call = reading meter value status seq in
       let a = accountOf c time calls in
-      let taken = taken-is c meter status seq e in
-      let is : accountOf c time (call ∷ calls) ≡ read c a meter value status seq taken = entered-is c a meter value status seq e in
+      let (number, fresh) = renewed-is c (a .journal) meter status seq e in
+      let taken = taken-is c meter status seq number in
+      let is : accountOf c time (call ∷ calls) ≡ read c a meter value status seq = entered-is c a meter value status seq number in
       record {
-        not-ahead = ap (λ (x : Account). aheadIn c x meter) is ∙ ahead-read c a meter value status seq taken;
-        not-past = ap (λ (x : Account). pastIn c x meter) is ∙ past-read c a meter value status seq taken;
-        fresh = ap (λ (x : Account). freshIn c x meter) is ∙ sym (fresh-awake c (read c a meter value status seq taken) meter) ∙ awake-read c a meter value status seq taken;
+        not-ahead = ap (λ (x : Account). aheadIn c x meter) is ∙ ahead-read c a meter value status seq taken fresh;
+        not-past = ap (λ (x : Account). pastIn c x meter) is ∙ past-read c a meter value status seq taken fresh;
+        fresh = ap (λ (x : Account). freshIn c x meter) is ∙ sym (fresh-awake c (read c a meter value status seq) meter) ∙ awake-read c a meter value status seq taken fresh;
         one-less =
-            stale-is c accepted time calls ∙ stale-read c a meter value status seq taken
+            stale-is c accepted time calls ∙ stale-read c a meter value status seq taken fresh
             ∙ ap (λ (n : ℕ). n + (bit (aheadIn c a meter) + bit (pastIn c a meter))) (ap (λ (x : Account). staleCount c x) (sym is) ∙ sym (stale-is c accepted time (call ∷ calls)));
         register = λ buffer n answered.
             registers-of-history setup lent c accepted time (call ∷ calls) 82 meter buffer n answered
-            ∙ ap (λ (bytes : List ℕ). bytes ++ drop n buffer) (ap (λ (x : Account). shown c x 82 meter) is ∙ shown-read c a meter value status seq taken);
+            ∙ ap (λ (bytes : List ℕ). bytes ++ drop n buffer) (ap (λ (x : Account). shown c x 82 meter) is ∙ shown-read c a meter value status seq taken fresh);
       }
 
   pub clock-back : ClockBack setup lent

@@ -6,7 +6,7 @@ use mathlib.Core.Logic.{_⊎_, inl, inr, ⊎-elim}
 use Prim.Native.Nat.{ℕ, zero, suc, _+_, _*_, _<_, _≤_}
 use native.Mathlib.Nat.{le-refl}
 use native.Mathlib.Omega.{arith}
-use borrow.Author.Tests.{not-true, not-false, eqb-true, eqb-false, eq-eqb, ne-eqb, ltb-true, lt-ltb, leb-true, leb-false, le-leb, lt-leb}
+use borrow.Author.Tests.{not-true, not-false, eqb-true, eqb-false, eq-eqb, ltb-true, lt-ltb, leb-true, leb-false, le-leb, lt-leb}
 use lib.Dec.{eqb, ltb, leb}
 use lib.IntN.{ℤ}
 use lib.ListN.{length, getD, take, drop}
@@ -28,7 +28,7 @@ use Rattle.image.proofs.Found.{value-exactly}
 use Rattle.counting.specs.Bills.{fillsUp, bookedOf}
 use Rattle.sampling.specs.Samples.{bookingOf, bookingOn, clockEnd, sampleOf, samplesOf}
 use Rattle.recorder.specs.Clock.{setOf}
-use Rattle.recorder.specs.Meters.{classOf, ageOf, readingOf}
+use Rattle.recorder.specs.Meters.{classOf, ageOf, meterAt, Stamping, stampingOf, readingAnswer, afterReading}
 use Rattle.profile.specs.Records.{slotsFit}
 use Rattle.profile.specs.Room.{legalLength, asAtStart, kept, withRecords}
 use Rattle.profile.specs.Reading.{heldIn, recordReply}
@@ -243,8 +243,8 @@ unfolding sampleLent
 samples r bits buffer = lent-then (r .profile) buffer _ _ (λ f. rw f) (λ t. rw t (samples-right r bits))
 
 pub readings : (r : Recorder) (meter : ℕ) (v : ℤ) (status seq : ℕ)
-    → Ordered (readingRefusals r meter status seq) (numbered (readingReply r meter v status seq .number))
-unfolding readingOf
+    → Ordered (readingRefusals r meter status seq) (readingReply r meter v status seq .answer)
+unfolding readingAnswer
 readings r meter v status seq =
     next 7 0 _ (ltb 31 meter) _ (λ t. ltb-true _ _ t) (λ f l. true≢false (sym (lt-ltb _ _ l) ∙ f)) (λ t. rw t)
     (λ f.
@@ -253,7 +253,7 @@ readings r meter v status seq =
     next 10 0 _ (ltb 7 status || ltb 31 seq) _
     (λ t. by-test (ltb 7 status) (λ a. inl (ltb-true _ _ a)) (λ a. inr (ltb-true _ _ (or-right _ _ a t))))
     (λ h. ⊎-elim (λ l. true≢false (sym (or-first (ltb 7 status) (ltb 31 seq) (lt-ltb _ _ l)) ∙ h)) (λ l. true≢false (sym (or-second (ltb 7 status) (ltb 31 seq) (lt-ltb _ _ l)) ∙ h)))
-    (λ t. rw (f, g, t)) (λ h. done tt _ (rw (f, g, h)))))
+    (λ t. rw (f, g, t)) (λ h. done (stampingOf (meterAt (r .state .meters) meter) seq) _ (rw (f, g, h)))))
   where
     or-first : (a b : Bool) → a ≡ true → (a || b) ≡ true
     or-first a b e = rw e
@@ -263,17 +263,17 @@ readings r meter v status seq =
     or-second false b e = e
 
 pub readouts : (r : Recorder) (meter status seq decimals : ℕ) (line : List ℕ)
-    → Ordered (lineRefusals line decimals ++ readingRefusals r meter status seq) (numbered (readoutReply r meter status seq decimals line .number))
+    → Ordered (lineRefusals line decimals ++ readingRefusals r meter status seq) (readoutReply r meter status seq decimals line .answer)
 readouts r meter status seq decimals line =
-    line-then line decimals (readingRefusals r meter status seq) (numbered (readoutReply r meter status seq decimals line .number))
-    (λ n h e. rw (readout-refused r meter status seq decimals line n e, ne-eqb n 0 (λ k. omega arith)))
+    line-then line decimals (readingRefusals r meter status seq) (readoutReply r meter status seq decimals line .answer)
+    (λ n h e. rw (readout-refused r meter status seq decimals line n e))
     (λ z e. rw (readout-given r meter status seq decimals line z e) (readings r meter z status seq))
 
 pub block-readouts : (r : Recorder) (meter status seq decimals : ℕ) (block line : List ℕ)
-    → Ordered (badBlock block ∷ lineRefusals line decimals ++ readingRefusals r meter status seq) (numbered (blockReadoutReply r meter status seq decimals block line .number))
+    → Ordered (badBlock block ∷ lineRefusals line decimals ++ readingRefusals r meter status seq) (blockReadoutReply r meter status seq decimals block line .answer)
 unfolding blockReadoutReply
 block-readouts r meter status seq decimals block line =
-    block-then block (lineRefusals line decimals ++ readingRefusals r meter status seq) (numbered (blockReadoutReply r meter status seq decimals block line .number)) (λ t. rw t)
+    block-then block (lineRefusals line decimals ++ readingRefusals r meter status seq) (blockReadoutReply r meter status seq decimals block line .answer) (λ t. rw t)
     (λ t. rw t (readouts r meter status seq decimals line))
 
 pub ages : (limit : ℕ) (read : Bool) (stamp status clock : ℕ) → Ordered (ageRefusals limit status) (ageOf limit read stamp status clock)
@@ -387,11 +387,6 @@ pub numbers-exact : NumbersExact
 numbers-exact =
     record { images = images; starts = starts; samples = samples; runs = runs; sets = sets; readings = readings; lines = lines; blocks = blocks; readouts = readouts; block-readouts = block-readouts; registers = registers; records = records; ages = ages; writes = writes }
 
--- a refused call leaves the state
-reply-leaves : (s : State) (a : Answer State) → (replyTo s a .number ≡ 0 → ⊥) → replyTo s a .after ≡ s
-reply-leaves s (given later) h = absurd (h refl)
-reply-leaves s (refused n o) h = refl
-
 -- a refused sample leaves the recorder and the buffer
 sample-leaves : (r : Recorder) (bits : ℕ) (buffer : List ℕ) → (sampleLent r bits buffer .reply .number ≡ 0 → ⊥) → Left r buffer (sampleLent r bits buffer)
 unfolding sampleLent
@@ -419,20 +414,20 @@ set-leaves r time buffer h =
     go (refused n o) some = (refl, refl)
 
 -- and so do a refused reading and a refused data set
-reading-leaves : (r : Recorder) (meter : ℕ) (v : ℤ) (status seq : ℕ) → (readingReply r meter v status seq .number ≡ 0 → ⊥) → readingReply r meter v status seq .after ≡ r
-reading-leaves r meter v status seq h = ap (on r) (reply-leaves (r .state) (readingOf (r .config) (r .state) meter v status seq) h)
+reading-leaves : (r : Recorder) (meter : ℕ) (v : ℤ) (status seq n offset : ℕ) → readingReply r meter v status seq .answer ≡ refused n offset → readingReply r meter v status seq .after ≡ r
+reading-leaves r meter v status seq n offset e = ap (λ (a : Answer Stamping). moved r (afterReading (r .state) meter v status seq a) []) e
 
-readout-leaves : (r : Recorder) (meter status seq decimals : ℕ) (line : List ℕ)
-    → (readoutReply r meter status seq decimals line .number ≡ 0 → ⊥) → readoutReply r meter status seq decimals line .after ≡ r
+readout-leaves : (r : Recorder) (meter status seq decimals : ℕ) (line : List ℕ) (n offset : ℕ)
+    → readoutReply r meter status seq decimals line .answer ≡ refused n offset → readoutReply r meter status seq decimals line .after ≡ r
 unfolding readoutReply
-readout-leaves r meter status seq decimals line h =
-    by-answer (lineNumber line decimals) (λ z e. rw e (reading-leaves r meter z status seq (rw e at h))) (λ n offset e. rw e)
+readout-leaves r meter status seq decimals line n offset h =
+    by-answer (lineNumber line decimals) (λ z e. rw e (reading-leaves r meter z status seq n offset (rw e at h))) (λ m o e. rw e)
 
 block-readout-leaves : (r : Recorder) (meter status seq decimals : ℕ) (block line : List ℕ)
-    → (blockReadoutReply r meter status seq decimals block line .number ≡ 0 → ⊥) → blockReadoutReply r meter status seq decimals block line .after ≡ r
+    → (n offset : ℕ) → blockReadoutReply r meter status seq decimals block line .answer ≡ refused n offset → blockReadoutReply r meter status seq decimals block line .after ≡ r
 unfolding blockReadoutReply
-block-readout-leaves r meter status seq decimals block line h =
-    by-test (isBlock block) (λ t. rw t (readout-leaves r meter status seq decimals line (rw t at h))) (λ t. rw t)
+block-readout-leaves r meter status seq decimals block line n offset h =
+    by-test (isBlock block) (λ t. rw t (readout-leaves r meter status seq decimals line n offset (rw t at h))) (λ t. rw t)
 
 pub refused-changes-nothing : RefusedChangesNothing
 unfolding afterWrite

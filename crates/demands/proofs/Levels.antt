@@ -25,7 +25,7 @@ use Rattle.counting.specs.Levels.{level0, level2, inputValue, sumValue, functio
 use Rattle.sampling.specs.Periods.{multiple, begunAnew, clearedLines, closedAs, stateOf as stateAs, tickOf}
 use Rattle.sampling.specs.Samples.{activeAt, bookingOn, countedOf, sampleOf}
 use Rattle.recorder.specs.Clock.{setTo, setOf, resetOf}
-use Rattle.recorder.specs.Meters.{readingOf}
+use Rattle.recorder.specs.Meters.{readingAnswer, readingOf}
 use Rattle.recorder.specs.Calls.{freshState}
 use Rattle.recorder.specs.History.{Call, sample, set as set-call, reading, reset}
 use Rattle.recorder.specs.Laws.{Good}
@@ -174,8 +174,8 @@ set-closes c s a seconds good both old =
     (dated-or-not seconds)
 
 reading-closes : (c : Config) (s : State) (a : Account) (meter : ℕ) (v : ℤ) (status seq : ℕ) → Closes c s a
-    → Closes c (replyTo s (readingOf c s meter v status seq) .after) (withCall c a (reading meter v status seq))
-unfolding readingOf numberOfReading withCall
+    → Closes c (readingOf c s meter v status seq .after) (withCall c a (reading meter v status seq))
+unfolding readingAnswer numberOfReading withCall
 reading-closes c s a meter v status seq old =
     by-test (ltb 31 meter) (λ t. rw t old)
     (λ f.

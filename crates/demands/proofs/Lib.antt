@@ -18,10 +18,12 @@ pub mod Shown
 pub mod Demand2
 pub mod Profile
 pub mod ClockBack
+pub mod Repeats
 pub mod Readout
 pub mod Example
 pub mod ProfileCases
 pub mod ClockBackCases
+pub mod RepeatsCases
 pub mod ReadoutCases
 pub mod Full
 pub mod Tightness

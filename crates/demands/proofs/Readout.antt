@@ -10,14 +10,15 @@ use Rattle.readout.proofs.Splits.{one-split}
 use Rattle.readout.proofs.Written.{number-as-written}
 use Rattle.readout.proofs.ReadBack.{number-read-back, line-read-back, line-value}
 use Rattle.readout.proofs.Framed.{block-around-bytes, one-byte-changed}
-use Rattle.recorder.specs.History.{Call, reading}
+use Rattle.recorder.specs.History.{Call}
 use Rattle.recorder.specs.Readout.{readoutReply, blockReadoutReply}
 use Rattle.recorder.specs.declared.Setup.{Setup}
 use Rattle.settings.specs.declared.Config.{Config}
+use Rattle.demands.specs.Account.{journalOf}
 use Rattle.demands.specs.Demand2.{reached}
 use Rattle.demands.specs.Profile.{callsOf}
-use Rattle.demands.specs.Readout.{numberOfReadout, SentIsRead, AnswersOfReadouts, RegistersOfSequence, MetersReadout}
-use Rattle.demands.proofs.Agrees.{answers-of-history}
+use Rattle.demands.specs.Readout.{answerOfReadout, SentIsRead, AnswersOfReadouts, RegistersOfSequence, MetersReadout}
+use Rattle.demands.proofs.Repeats.{answers-of-readings}
 use Rattle.demands.proofs.Shown.{registers-of-history}
 use Rattle.demands.proofs.Profile.{reaches}
 
@@ -30,11 +31,12 @@ sent-is-read line decimals n w sent =
 
 -- a data set is answered with its number's refusal, or as its reading is
 module _ (setup : Setup) (lent : ℕ) (c : Config) (time : ℕ) (calls : List Call) (meter status seq decimals : ℕ) where
-  readout-number : (line : List ℕ)
-      → readoutReply (reached setup lent c time calls) meter status seq decimals line .number ≡ numberOfReadout c meter status seq (lineNumber line decimals)
+  readout-answer : (line : List ℕ)
+      → readoutReply (reached setup lent c time calls) meter status seq decimals line .answer
+      ≡ answerOfReadout c (journalOf c time calls) meter status seq (lineNumber line decimals)
   unfolding readoutReply
-  readout-number line =
-      by-answer (lineNumber line decimals) (λ z e. rw e (answers-of-history setup lent c time calls (reading meter z status seq))) (λ n offset e. rw e)
+  readout-answer line =
+      by-answer (lineNumber line decimals) (λ z e. rw e (answers-of-readings setup lent c time calls meter z status seq)) (λ n offset e. rw e)
 
 answers-of-readouts : AnswersOfReadouts
 unfolding blockReadoutReply
@@ -42,9 +44,9 @@ answers-of-readouts setup fit c accepted time buffer limits sequence own =
     let calls = callsOf c time sequence in
     rw (reaches setup fit c accepted time buffer limits sequence own)
     (record {
-      readouts = λ meter status seq decimals line. readout-number setup _ c time calls meter status seq decimals line;
+      readouts = λ meter status seq decimals line. readout-answer setup _ c time calls meter status seq decimals line;
       block-readouts = λ meter status seq decimals block line.
-          by-test (isBlock block) (λ t. rw t (readout-number setup _ c time calls meter status seq decimals line)) (λ t. rw t);
+          by-test (isBlock block) (λ t. rw t (readout-answer setup _ c time calls meter status seq decimals line)) (λ t. rw t);
     })
 
 registers-of-sequence : RegistersOfSequence

@@ -15,7 +15,7 @@ use Rattle.readout.specs.Blocks.{xorFrom, isBlock}
 use Rattle.readout.specs.DataSets.{endsAt, valuePlace}
 use Rattle.readout.specs.Numbers.{isDecimal, sizeOf, wholeNumber}
 use Rattle.recorder.specs.Calls.{freshState}
-use Rattle.recorder.specs.Meters.{classOf, readingOf}
+use Rattle.recorder.specs.Meters.{classOf, stampingOf, readingAnswer}
 use Rattle.recorder.specs.Readout.{readoutReply, blockReadoutReply}
 use Rattle.recorder.specs.declared.Recorder.{Recorder}
 use Rattle.recorder.specs.declared.Setup.{Setup}
@@ -32,10 +32,10 @@ module _ (setup : Setup) (buffer : List ℕ) where
   noon = afterSequence setup twoMakers start buffer atNoon .recorder
 
   each-try : Each (TryClaim noon) tries
-  unfolding letters leading digits valueFrom endsAt valuePlace isDecimal sizeOf wholeNumber lineNumber xorFrom isBlock freshState readingOf readoutReply blockReadoutReply afterSequence
+  unfolding letters leading digits valueFrom endsAt valuePlace isDecimal sizeOf wholeNumber lineNumber xorFrom isBlock freshState stampingOf readingAnswer readoutReply blockReadoutReply afterSequence
   each-try =
-      ((refl, refl, refl), ((refl, refl, refl), ((refl, refl, refl), ((refl, refl, refl), ((refl, refl, refl), ((refl, refl, refl), ((refl, refl, refl), ((refl, refl, refl), ((refl, refl, refl), ((refl, refl, refl), ((refl, refl, refl), ((refl, refl, refl), ((refl, refl, refl), tt)))))))))))))
+      ((refl, refl, refl), ((refl, refl, refl), ((refl, refl, refl), ((refl, refl, refl), ((refl, refl, refl), ((refl, refl, refl), ((refl, refl, refl), ((refl, refl, refl), ((refl, refl, refl), ((refl, refl, refl), ((refl, refl, refl), ((refl, refl, refl), ((refl, refl, refl), ((refl, refl, refl), tt))))))))))))))
 
   pub readout-cases : ReadoutCases setup buffer
-  unfolding letters leading digits valueFrom endsAt valuePlace isDecimal sizeOf wholeNumber lineNumber xorFrom isBlock freshState readingOf readoutReply blockReadoutReply afterSequence total totalℤ table bytesOf classOf meterClass classAt hasClass hasAny awakeValue awakeSum fleetOf statusShown serialBytes meterBytes groups lookUp registerReply
+  unfolding letters leading digits valueFrom endsAt valuePlace isDecimal sizeOf wholeNumber lineNumber xorFrom isBlock freshState stampingOf readingAnswer readoutReply blockReadoutReply afterSequence total totalℤ table bytesOf classOf meterClass classAt hasClass hasAny awakeValue awakeSum fleetOf statusShown serialBytes meterBytes groups lookUp registerReply
   readout-cases = record { meter-0 = refl; meter-1 = refl; meter-2 = refl; fleet = refl; each = each-try }

@@ -111,7 +111,7 @@ blocks block = block-then block [] (blockAnswer block) (λ t. rw t) (λ t. rw t 
 
 -- where a data set is refused its number is that of the line
 module _ (r : Recorder) (meter status seq decimals : ℕ) (line : List ℕ) where
-  pub readout-refused : (n : ℕ) → lineNumber line decimals ≡ refused n 0 → readoutReply r meter status seq decimals line ≡ record { number = n; after = r }
+  pub readout-refused : (n : ℕ) → lineNumber line decimals ≡ refused n 0 → readoutReply r meter status seq decimals line ≡ record { answer = refused n 0; after = r }
   unfolding readoutReply
   readout-refused n e = rw e
 

@@ -18,16 +18,16 @@ use Rattle.laws.specs.SignedTotal.{totalℤ}
 use Rattle.laws.proofs.Tables.{table-at}
 use Rattle.laws.proofs.Total.{total-cong}
 use Rattle.settings.specs.declared.Config.{Config}
-use Rattle.recorder.specs.Meters.{classOf}
+use Rattle.recorder.specs.Meters.{classOf, meterAt}
 use Rattle.sampling.specs.declared.Meter.{Meter}
 use Rattle.profile.specs.declared.Profile.{Profile}
 use Rattle.recorder.specs.declared.Recorder.{Recorder}
 use Rattle.recorder.specs.declared.Setup.{Setup}
-use Rattle.registers.specs.Fleet.{meterAt, meterClass, classAt, hasClass, hasAny, awakeValue, awakeSum, classesOf, fleetOf}
+use Rattle.registers.specs.Fleet.{meterClass, classAt, hasClass, hasAny, awakeValue, awakeSum, classesOf, fleetOf}
 use Rattle.registers.specs.Contents.{statusShown, serialBytes, meterBytes, mapBytes, resultBytes, dailyBytes, weeklyBytes, level9Bytes, levelBytes, billBytes, filterBytes, fleetBytes, clockBytes}
 use Rattle.registers.specs.Registers.{Group, groups, lookUp, groupOf, registersIn, registersOf, contentsOf, replyOf, registerReply}
 use Rattle.registers.proofs.Laws.{given-first, marked-by-class, unmarked-by-class}
-use Rattle.demands.specs.Account.{Entry, took, ended, cleared, heard, Account, Reading, lastReading, lastReset, inUse, accountOf}
+use Rattle.demands.specs.Account.{Entry, took, ended, cleared, heard, Heard, readingsOf, leftBy, Account, Reading, lastReading, lastReset, inUse, accountOf}
 use Rattle.demands.specs.State.{lineIn, billIn, meterIn, stateIn}
 use Rattle.demands.specs.Shown.{isNever, isStale, isInvalid, awakeIn, fleetIn, serialShown, billShown, shown}
 use Rattle.demands.specs.Demand2.{reached, RegistersOfHistory, FleetOfHistory, InvalidMark, AwakeUnmarked}
@@ -124,14 +124,14 @@ module _ (setup : Setup) (profile : Profile) (c : Config) (a : Account) where
 
   -- Bytes
 
+  -- readings that leave a meter unread are none
+  none-left : (h : List Heard) → leftBy h .read ≡ false → leftBy h ≡ record { read = false; stamp = 0; value = pos 0; status = 0; seq = 0 }
+  none-left [] e = refl
+  none-left (last ∷ earlier) e = absurd (true≢false e)
+
   -- a meter that was never read has zeros
   unread : (journal : List Entry) (i : ℕ) → lastReading journal i .read ≡ false → lastReading journal i ≡ record { read = false; stamp = 0; value = pos 0; status = 0; seq = 0 }
-  unread [] i e = refl
-  unread (took bits t ∷ l) i e = unread l i e
-  unread (ended state t ∷ l) i e = unread l i e
-  unread (cleared t ∷ l) i e = unread l i e
-  unread (heard t meter v status seq ∷ l) i e =
-      by-test (eqb meter i) (λ same. absurd (true≢false (rw same at e))) (λ other. rw other (unread l i (rw other at e)))
+  unread journal i e = none-left (readingsOf journal i) e
 
   -- a bill that was never reset has no closed amount
   unclosed : (j : ℕ) (journal : List Entry) → lastReset c j journal .reset ≡ false → lastReset c j journal ≡ record { reset = false; amount = 0; stamp = 0 }

@@ -7,24 +7,24 @@ use lib.Dec.{ltb, leb, eqb}
 use lib.IntN.{ℤ, pos}
 use lib.ListN.{getD}
 use Rattle.laws.specs.If.{if_then_else_}
-use Rattle.laws.specs.Answers.{Answer, given, refused}
+use Rattle.laws.specs.Answers.{Answer, given, refused, numberIn}
 use Rattle.laws.specs.Any.{any}
 use Rattle.laws.specs.Masks.{bit}
 use Rattle.laws.specs.Tables.{table}
 use Rattle.calendar.specs.Moments.{momentOf}
-use Rattle.calendar.specs.declared.Moment.{Moment}
 use Rattle.tariff.specs.Rules.{forceMapAt}
 use Rattle.settings.specs.declared.Config.{Config}
 use Rattle.counting.specs.Filter.{inputAt}
 use Rattle.counting.specs.Bills.{registerAt, sumOf, feeds}
 use Rattle.sampling.specs.Periods.{multiple}
 use Rattle.sampling.specs.Samples.{activeAt}
+use Rattle.recorder.specs.Meters.{Stamping, renewed, kept}
 use Rattle.recorder.specs.History.{Call, sample, set, reading, reset}
 
 -- The journal of a history: what was accepted, and when
 
 -- an entry: an accepted sample, its line bits and its second; the end of a period, its state (1 short, 2 whole) and closing time; a billing reset and its second; an accepted reading, its
--- stamp, meter, value, STATUS and SEQ
+-- second, meter, value, STATUS and SEQ
 pub data Entry : Type 0 where
   took : ℕ → ℕ → Entry
   ended : ℕ → ℕ → Entry
@@ -172,6 +172,32 @@ periodsOf c (ended state stamp ∷ earlier) =
 periodsOf c (cleared second ∷ earlier) = periodsOf c earlier
 periodsOf c (heard stamp meter value status seq ∷ earlier) = periodsOf c earlier
 
+-- an accepted reading of a meter, and the second at which it came
+pub record Heard : Type 0 where
+  pub second : ℕ
+  pub value : ℤ
+  pub status : ℕ
+  pub seq : ℕ
+
+-- all accepted readings of meter i
+abbrev pub readingsOf : List Entry → ℕ → List Heard
+readingsOf [] i = []
+readingsOf (took bits second ∷ earlier) i = readingsOf earlier i
+readingsOf (ended state stamp ∷ earlier) i = readingsOf earlier i
+readingsOf (cleared second ∷ earlier) i = readingsOf earlier i
+readingsOf (heard second meter value status seq ∷ earlier) i =
+    if eqb meter i then record { second = second; value = value; status = status; seq = seq } ∷ readingsOf earlier i else readingsOf earlier i
+
+-- CR 5: a reading with this SEQ renews the stamp that these readings left, unless it "equals the stored one", that of the last of them; "A first reading always renews"
+abbrev pub renews : ℕ → List Heard → Bool
+renews seq [] = true
+renews seq (last ∷ earlier) = not (eqb (last .seq) seq)
+
+-- the stamp that readings leave: the second of the last one that renewed it
+abbrev pub stampOf : List Heard → ℕ
+stampOf [] = 0
+stampOf (last ∷ earlier) = if renews (last .seq) earlier then last .second else stampOf earlier
+
 -- "A reading brings meter, value, STATUS and SEQ, and is stamped with the clock"; none before the first
 pub record Reading : Type 0 where
   pub read : Bool
@@ -180,14 +206,15 @@ pub record Reading : Type 0 where
   pub status : ℕ
   pub seq : ℕ
 
--- the last accepted reading of meter i
+-- what readings leave: value, STATUS and SEQ of the last one, and the stamp
+abbrev pub leftBy : List Heard → Reading
+leftBy [] = record { read = false; stamp = 0; value = pos 0; status = 0; seq = 0 }
+leftBy (last ∷ earlier) =
+    record { read = true; stamp = stampOf (last ∷ earlier); value = last .value; status = last .status; seq = last .seq }
+
+-- the last accepted reading of meter i, with the stamp of the last one that renewed it
 abbrev pub lastReading : List Entry → ℕ → Reading
-lastReading [] i = record { read = false; stamp = 0; value = pos 0; status = 0; seq = 0 }
-lastReading (took bits second ∷ earlier) i = lastReading earlier i
-lastReading (ended state stamp ∷ earlier) i = lastReading earlier i
-lastReading (cleared second ∷ earlier) i = lastReading earlier i
-lastReading (heard stamp meter value status seq ∷ earlier) i =
-    if eqb meter i then record { read = true; stamp = stamp; value = value; status = status; seq = seq } else lastReading earlier i
+lastReading journal i = leftBy (readingsOf journal i)
 
 -- Which calls are accepted, and what they enter
 
@@ -221,11 +248,6 @@ numberOfSample c a bits =
     else if any 16 (overfull c (a .journal) (nextSample c a bits)) then 6
     else 0
 
--- a clock set: 9 for a time without a date, which no 32-bit time is
-abbrev pub numberOfDate : Answer Moment → ℕ
-numberOfDate (given m) = 0
-numberOfDate (refused n offset) = n
-
 -- a reading: "7 NO METER: meter above 31"; "8 NOT FITTED"; "10 READING: STATUS above 7 or SEQ above 31"
 unfoldable pub numberOfReading : Config → ℕ → ℕ → ℕ → ℕ
 numberOfReading c meter status seq =
@@ -234,10 +256,18 @@ numberOfReading c meter status seq =
     else if ltb 7 status || ltb 31 seq then 10
     else 0
 
--- the number with which a call is answered
+-- the whole answer to a reading: whether the stamp is renewed or kept, or the refusal
+unfoldable pub answerOfReading : Config → List Entry → ℕ → ℕ → ℕ → Answer Stamping
+answerOfReading c journal meter status seq =
+    let number = numberOfReading c meter status seq in
+    if not (eqb number 0) then refused number 0
+    else if renews seq (readingsOf journal meter) then given renewed
+    else given kept
+
+-- the number with which a call is answered; a clock set: 9 for a time without a date, which no 32-bit time is
 abbrev pub answerOf : Config → Account → Call → ℕ
 answerOf c a (sample bits) = numberOfSample c a bits
-answerOf c a (set seconds) = numberOfDate (momentOf seconds)
+answerOf c a (set seconds) = numberIn (momentOf seconds)
 answerOf c a (reading meter value status seq) = numberOfReading c meter status seq
 answerOf c a reset = 0
 

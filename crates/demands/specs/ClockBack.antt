@@ -16,12 +16,12 @@ use Rattle.laws.specs.Masks.{bit}
 use Rattle.laws.specs.SignedTotal.{totalℤ}
 use Rattle.settings.specs.declared.Config.{Config}
 use Rattle.recorder.specs.History.{Call, set, reading}
-use Rattle.recorder.specs.Meters.{classOf, ageOf}
+use Rattle.recorder.specs.Meters.{classOf, ageOf, meterAt, renewed}
 use Rattle.recorder.specs.declared.Recorder.{Recorder}
 use Rattle.recorder.specs.declared.Setup.{Setup}
-use Rattle.registers.specs.Fleet.{meterAt, fleetOf}
+use Rattle.registers.specs.Fleet.{fleetOf}
 use Rattle.registers.specs.Registers.{registerReply}
-use Rattle.demands.specs.Account.{Account, lastReading, answerOf, accountOf}
+use Rattle.demands.specs.Account.{Account, lastReading, answerOfReading, answerOf, accountOf, journalOf}
 use Rattle.demands.specs.Starts.{Accepted}
 use Rattle.demands.specs.Demand2.{reached, withSamples}
 
@@ -91,7 +91,7 @@ module _ (setup : Setup) (lent : ℕ) where
       × (fleet .awake ≡ countOf 32 (freshIn c a))
       × (fleet .sum ≡ totalℤ 32 (λ i. cond (freshIn c a i) (lastReading (a .journal) i .value) (pos 0)))
 
-  -- what is so of a meter once a reading of it was accepted
+  -- what is so of a meter once a reading of it renewed its stamp
   pub record StaleNoLonger (c : Config) (time : ℕ) (calls : List Call) (meter : ℕ) (value : ℤ) (status seq : ℕ) : Type 0 where
     -- it is neither ahead nor past, and fresh unless the reading itself has IV
     pub not-ahead : aheadIn c (accountOf c time (reading meter value status seq ∷ calls)) meter ≡ false
@@ -108,11 +108,11 @@ module _ (setup : Setup) (lent : ℕ) where
         let reply = registerReply (reached setup lent c time (reading meter value status seq ∷ calls)) 82 meter buffer in
         reply .answer ≡ given n → reply .buffer ≡ (bytesOf 4 now ++ (bytesOf 4 (ofZ w32 value) ++ (bytesOf 1 status ++ bytesOf 1 seq))) ++ drop n buffer
 
-  -- "a meter read again at the new time is stale no longer", after any history
+  -- "a meter read again at the new time is stale no longer", after any history; CR 5: this "is for renewed stamps"
   abbrev pub ReadAgain : Type 0
   ReadAgain =
       (c : Config) → Accepted c → (time : ℕ) (calls : List Call) (meter : ℕ) (value : ℤ) (status seq : ℕ)
-      → answerOf c (accountOf c time calls) (reading meter value status seq) ≡ 0 → StaleNoLonger c time calls meter value status seq
+      → answerOfReading c (journalOf c time calls) meter status seq ≡ given renewed → StaleNoLonger c time calls meter value status seq
 
   -- CR 2, in one
   pub record ClockBack : Type 0 where

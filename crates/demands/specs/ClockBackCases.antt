@@ -39,9 +39,12 @@ pub record QuietMeters (setup : Setup) (lent : ℕ) : Type 0 where
   pub that-hour : (run : List ℕ) → length run < 360_000 → fleetOf (reached setup lent twoMakers start (withSamples run setBack)) ≡ ofFour 0 3 (pos 0)
   -- register 1 of group 82 shows the stamp, 168 * 256 + 192, the 7, STATUS 4 with IV and the SEQ
   pub marked : registerReply (reached setup lent twoMakers start setBack) 82 1 (replicate 10 0) ≡ record { answer = given 10; buffer = 192 ∷ 168 ∷ 0 ∷ 0 ∷ 7 ∷ 0 ∷ 0 ∷ 0 ∷ 5 ∷ 2 ∷ [] }
-  -- at any time of that hour meter 1 is read again, and is awake; the two others are not
+  -- at any time of that hour meter 1 is read again, with another SEQ, and is awake; the two others are not
   pub read-again : (run : List ℕ) → length run < 360_000
       → fleetOf (reached setup lent twoMakers start (reading 1 (pos 9) 0 3 ∷ withSamples run setBack)) ≡ ofFour 1 2 (pos 9)
+  -- the same with the SEQ that it had, 2, is no sign of life
+  pub repeated : (run : List ℕ) → length run < 360_000
+      → fleetOf (reached setup lent twoMakers start (reading 1 (pos 9) 0 2 ∷ withSamples run setBack)) ≡ ofFour 0 3 (pos 0)
   -- forth again: at the stamps and up to a quarter of an hour past them the three count as awake, as they did at noon, heard of or not; a second later as stale
   pub forth : fleetOf (reached setup lent twoMakers start (set 43_200 ∷ setBack)) ≡ ofFour 3 0 (pos 23)
   pub at-the-limit : fleetOf (reached setup lent twoMakers start (set 44_100 ∷ setBack)) ≡ ofFour 3 0 (pos 23)

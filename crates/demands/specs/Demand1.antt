@@ -173,13 +173,13 @@ pub record NumbersExact : Type 0 where
   pub sets : (r : Recorder) (time : ℕ) (buffer : List ℕ)
       → Ordered (otherLength (r .profile) buffer ∷ noDate time ∷ []) (numbered (setLent r time buffer .reply .number))
   pub readings : (r : Recorder) (meter : ℕ) (value : ℤ) (status seq : ℕ)
-      → Ordered (readingRefusals r meter status seq) (numbered (readingReply r meter value status seq .number))
+      → Ordered (readingRefusals r meter status seq) (readingReply r meter value status seq .answer)
   pub lines : (line : List ℕ) (decimals : ℕ) → Ordered (lineRefusals line decimals) (lineNumber line decimals)
   pub blocks : (block : List ℕ) → Ordered (badBlock block ∷ []) (blockAnswer block)
   pub readouts : (r : Recorder) (meter status seq decimals : ℕ) (line : List ℕ)
-      → Ordered (lineRefusals line decimals ++ readingRefusals r meter status seq) (numbered (readoutReply r meter status seq decimals line .number))
+      → Ordered (lineRefusals line decimals ++ readingRefusals r meter status seq) (readoutReply r meter status seq decimals line .answer)
   pub block-readouts : (r : Recorder) (meter status seq decimals : ℕ) (block line : List ℕ)
-      → Ordered (badBlock block ∷ lineRefusals line decimals ++ readingRefusals r meter status seq) (numbered (blockReadoutReply r meter status seq decimals block line .number))
+      → Ordered (badBlock block ∷ lineRefusals line decimals ++ readingRefusals r meter status seq) (blockReadoutReply r meter status seq decimals block line .answer)
   pub registers : (r : Recorder) (group register : ℕ) (buffer : List ℕ)
       → Ordered (registerRefusals r group register buffer) (registerReply r group register buffer .answer)
   pub records : (p : Profile) (index : ℕ) (buffer result : List ℕ)
@@ -202,12 +202,12 @@ pub record RefusedChangesNothing : Type 0 where
   pub sets : (r : Recorder) (time : ℕ) (buffer : List ℕ) → (setLent r time buffer .reply .number ≡ 0 → ⊥) → Left r buffer (setLent r time buffer)
   pub records : (p : Profile) (index : ℕ) (buffer result : List ℕ) (n offset : ℕ)
       → recordReply p index buffer result .answer ≡ refused n offset → recordReply p index buffer result .result ≡ result
-  pub readings : (r : Recorder) (meter : ℕ) (value : ℤ) (status seq : ℕ)
-      → (readingReply r meter value status seq .number ≡ 0 → ⊥) → readingReply r meter value status seq .after ≡ r
-  pub readouts : (r : Recorder) (meter status seq decimals : ℕ) (line : List ℕ)
-      → (readoutReply r meter status seq decimals line .number ≡ 0 → ⊥) → readoutReply r meter status seq decimals line .after ≡ r
-  pub block-readouts : (r : Recorder) (meter status seq decimals : ℕ) (block line : List ℕ)
-      → (blockReadoutReply r meter status seq decimals block line .number ≡ 0 → ⊥) → blockReadoutReply r meter status seq decimals block line .after ≡ r
+  pub readings : (r : Recorder) (meter : ℕ) (value : ℤ) (status seq n offset : ℕ)
+      → readingReply r meter value status seq .answer ≡ refused n offset → readingReply r meter value status seq .after ≡ r
+  pub readouts : (r : Recorder) (meter status seq decimals : ℕ) (line : List ℕ) (n offset : ℕ)
+      → readoutReply r meter status seq decimals line .answer ≡ refused n offset → readoutReply r meter status seq decimals line .after ≡ r
+  pub block-readouts : (r : Recorder) (meter status seq decimals : ℕ) (block line : List ℕ) (n offset : ℕ)
+      → blockReadoutReply r meter status seq decimals block line .answer ≡ refused n offset → blockReadoutReply r meter status seq decimals block line .after ≡ r
   pub registers : (r : Recorder) (group register : ℕ) (buffer : List ℕ) (n offset : ℕ)
       → registerReply r group register buffer .answer ≡ refused n offset → registerReply r group register buffer .buffer ≡ buffer
   pub writes : (c : Config) (buffer : List ℕ) (n offset : ℕ) → writeAnswer c (length buffer) ≡ refused n offset → afterWrite c buffer ≡ buffer

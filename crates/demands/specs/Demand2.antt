@@ -8,7 +8,7 @@ use Prim.Native.Nat.{ℕ, suc, _%_, _≤_}
 use lib.Dec.{eqb}
 use lib.ListN.{getD, take, drop}
 use Rattle.laws.specs.If.{if_then_else_}
-use Rattle.laws.specs.Answers.{given}
+use Rattle.laws.specs.Answers.{given, numberIn}
 use Rattle.laws.specs.Masks.{bitAt}
 use Rattle.calendar.specs.Moments.{momentOf}
 use Rattle.calendar.specs.Laws.{FoundIsMoment, OneMoment, AlwaysDated}
@@ -17,11 +17,12 @@ use Rattle.tariff.specs.Rules.{inForce, forceMapAt}
 use Rattle.tariff.specs.declared.Program.{Program}
 use Rattle.image.specs.Laws.{WrittenIsRead, ReadIsWritten}
 use Rattle.settings.specs.declared.Config.{Config}
+use Rattle.recorder.specs.Meters.{meterAt}
 use Rattle.recorder.specs.Calls.{freshStart, sampleReply, samplesReply, setReply, readingReply}
 use Rattle.recorder.specs.History.{Call, sample, set, reading, reset, afterAll}
 use Rattle.recorder.specs.declared.Recorder.{Recorder}
 use Rattle.recorder.specs.declared.Setup.{Setup}
-use Rattle.registers.specs.Fleet.{meterAt, fleetOf}
+use Rattle.registers.specs.Fleet.{fleetOf}
 use Rattle.registers.specs.Laws.{BytesAsTable, GivenFirst}
 use Rattle.registers.specs.Registers.{registerReply}
 use Rattle.demands.specs.Account.{Account, periodsOf, numberOfSample, answerOf, withCall, accountOf}
@@ -33,7 +34,7 @@ use Rattle.demands.specs.Shown.{isAwake, fleetIn, shown}
 abbrev pub replyNumber : Recorder → Call → ℕ
 replyNumber r (sample bits) = sampleReply r bits .number
 replyNumber r (set seconds) = setReply r seconds .number
-replyNumber r (reading meter value status seq) = readingReply r meter value status seq .number
+replyNumber r (reading meter value status seq) = numberIn (readingReply r meter value status seq .answer)
 replyNumber r reset = 0
 
 -- how many samples of a run the account takes

@@ -9,10 +9,12 @@ pub mod Demand2
 pub mod Demand3
 pub mod Profile
 pub mod ClockBack
+pub mod Repeats
 pub mod Readout
 pub mod Table
 pub mod Example
 pub mod ProfileCases
 pub mod ClockBackCases
+pub mod RepeatsCases
 pub mod ReadoutCases
 pub mod Tightness

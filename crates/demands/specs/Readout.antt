@@ -11,29 +11,32 @@ use Rattle.readout.specs.Answers.{lineNumber}
 use Rattle.readout.specs.Blocks.{isBlock}
 use Rattle.readout.specs.Laws.{Sent, OneSplit, NumberAsWritten, NumberReadBack, LineReadBack, BlockAroundBytes, OneByteChanged}
 use Rattle.readout.specs.Numbers.{Decimal, in32Bits}
+use Rattle.recorder.specs.Meters.{Stamping}
 use Rattle.recorder.specs.Readout.{readoutReply, blockReadoutReply}
 use Rattle.registers.specs.Registers.{registerReply}
 use Rattle.settings.specs.declared.Config.{Config}
-use Rattle.demands.specs.Account.{numberOfReading, accountOf}
+use Rattle.demands.specs.Account.{Entry, answerOfReading, accountOf, journalOf}
 use Rattle.demands.specs.Shown.{shown}
 use Rattle.demands.specs.Profile.{Hall, afterSequence, callsOf, AfterAnySequence}
 
--- the number with which a data set is answered: that of its number, "then those of a reading"
-abbrev pub numberOfReadout : Config → ℕ → ℕ → ℕ → Answer ℤ → ℕ
-numberOfReadout c meter status seq (given value) = numberOfReading c meter status seq
-numberOfReadout c meter status seq (refused n offset) = n
+-- what a data set is answered: the refusal of its number, or what its reading is
+abbrev pub answerOfReadout : Config → List Entry → ℕ → ℕ → ℕ → Answer ℤ → Answer Stamping
+answerOfReadout c journal meter status seq (given value) = answerOfReading c journal meter status seq
+answerOfReadout c journal meter status seq (refused n offset) = refused n offset
 
--- what data sets are answered, with a block and without
-pub record ReadoutAnswered (c : Config) (x : Hall) : Type 0 where
+-- what data sets are answered, with a block and without, where this is the journal
+pub record ReadoutAnswered (c : Config) (journal : List Entry) (x : Hall) : Type 0 where
   pub readouts : (meter status seq decimals : ℕ) (line : List ℕ)
-      → readoutReply (x .recorder) meter status seq decimals line .number ≡ numberOfReadout c meter status seq (lineNumber line decimals)
+      → readoutReply (x .recorder) meter status seq decimals line .answer ≡ answerOfReadout c journal meter status seq (lineNumber line decimals)
   pub block-readouts : (meter status seq decimals : ℕ) (block line : List ℕ)
-      → blockReadoutReply (x .recorder) meter status seq decimals block line .number
-      ≡ (if isBlock block then numberOfReadout c meter status seq (lineNumber line decimals) else 16)
+      → blockReadoutReply (x .recorder) meter status seq decimals block line .answer
+      ≡ (if isBlock block then answerOfReadout c journal meter status seq (lineNumber line decimals) else refused 16 0)
 
 -- after any sequence of calls, data sets among them, each data set is answered so
 abbrev pub AnswersOfReadouts : Type 0
-AnswersOfReadouts = AfterAnySequence (λ setup c time buffer sequence. ReadoutAnswered c (afterSequence setup c time buffer sequence))
+AnswersOfReadouts =
+    AfterAnySequence (λ setup c time buffer sequence.
+    ReadoutAnswered c (journalOf c time (callsOf c time sequence)) (afterSequence setup c time buffer sequence))
 
 -- and each register that is read has the bytes that the account shows: a data set that was accepted is a reading of its whole number, and one that was refused is nothing
 abbrev pub RegistersOfSequence : Type 0

@@ -4,9 +4,10 @@ use mathlib.Core.List.{List, [], _∷_, _++_, reverse}
 use Prim.Native.Nat.{ℕ}
 use lib.IntN.{pos}
 use lib.ListN.{replicate}
-use Rattle.laws.specs.Answers.{given}
+use Rattle.laws.specs.Answers.{Answer, given, refused}
 use Rattle.laws.specs.Each.{Each}
 use Rattle.laws.specs.Letters.{letters}
+use Rattle.recorder.specs.Meters.{Stamping, renewed, kept}
 use Rattle.recorder.specs.Readout.{readoutReply, blockReadoutReply}
 use Rattle.recorder.specs.declared.Recorder.{Recorder}
 use Rattle.recorder.specs.declared.Setup.{Setup}
@@ -40,43 +41,44 @@ atNoon =
     ∷ readout 2 0 6 1 (letters "96.9(-12.5*C)")
     ∷ [])
 
--- a data set for a meter, with STATUS, SEQ and decimals, and the number with which it is answered
+-- a data set for a meter, with STATUS, SEQ and decimals, and what it is answered
 pub record Try : Type 0 where
   pub meter : ℕ
   pub status : ℕ
   pub seq : ℕ
   pub decimals : ℕ
   pub line : List ℕ
-  pub number : ℕ
+  pub answer : Answer Stamping
 
 -- one with STATUS 0 and SEQ 0 for meter 0
-abbrev plainly : ℕ → List ℕ → ℕ → Try
-plainly decimals line number = record { meter = 0; status = 0; seq = 0; decimals = decimals; line = line; number = number }
+abbrev plainly : ℕ → List ℕ → Answer Stamping → Try
+plainly decimals line answer = record { meter = 0; status = 0; seq = 0; decimals = decimals; line = line; answer = answer }
 
--- taken with three decimals and more, as long as it fits; 17 before 18, 18 before 19, 19 before 7, 7 before 8 before 10
+-- taken with three decimals and more, as long as it fits; 17 before 18, 18 before 19, 19 before 7, 7 before 8 before 10. Meter 0 was heard with SEQ 1 last: so 0 renews its stamp, and 1 keeps it
 abbrev pub tries : List Try
 tries =
-    plainly 3 energy 0
-    ∷ plainly 6 energy 0
-    ∷ plainly 7 energy 19
-    ∷ plainly 2 energy 18
-    ∷ plainly 10 energy 18
-    ∷ plainly 10 (letters "ERR03") 17
-    ∷ plainly 0 (letters "x(-2147483648)") 0
-    ∷ plainly 0 (letters "x(2147483648)") 19
-    ∷ plainly 0 (letters "x(99999999999999.5)") 18
-    ∷ record { meter = 32; status = 8; seq = 32; decimals = 7; line = energy; number = 19 }
-    ∷ record { meter = 32; status = 8; seq = 32; decimals = 3; line = energy; number = 7 }
-    ∷ record { meter = 31; status = 8; seq = 32; decimals = 3; line = energy; number = 8 }
-    ∷ record { meter = 3; status = 0; seq = 32; decimals = 3; line = energy; number = 10 }
+    plainly 3 energy (given renewed)
+    ∷ plainly 6 energy (given renewed)
+    ∷ plainly 7 energy (refused 19 0)
+    ∷ plainly 2 energy (refused 18 0)
+    ∷ plainly 10 energy (refused 18 0)
+    ∷ plainly 10 (letters "ERR03") (refused 17 0)
+    ∷ plainly 0 (letters "x(-2147483648)") (given renewed)
+    ∷ plainly 0 (letters "x(2147483648)") (refused 19 0)
+    ∷ plainly 0 (letters "x(99999999999999.5)") (refused 18 0)
+    ∷ record { meter = 32; status = 8; seq = 32; decimals = 7; line = energy; answer = refused 19 0 }
+    ∷ record { meter = 32; status = 8; seq = 32; decimals = 3; line = energy; answer = refused 7 0 }
+    ∷ record { meter = 31; status = 8; seq = 32; decimals = 3; line = energy; answer = refused 8 0 }
+    ∷ record { meter = 3; status = 0; seq = 32; decimals = 3; line = energy; answer = refused 10 0 }
+    ∷ record { meter = 0; status = 0; seq = 1; decimals = 3; line = energy; answer = given kept }
     ∷ []
 
 -- it is answered so; the sound block in front changes nothing, the damaged one makes it 16
 abbrev pub TryClaim : Recorder → Try → Type 0
 TryClaim r t =
-    (readoutReply r (t .meter) (t .status) (t .seq) (t .decimals) (t .line) .number ≡ t .number)
-    × (blockReadoutReply r (t .meter) (t .status) (t .seq) (t .decimals) energyBlock (t .line) .number ≡ t .number)
-    × (blockReadoutReply r (t .meter) (t .status) (t .seq) (t .decimals) damaged (t .line) .number ≡ 16)
+    (readoutReply r (t .meter) (t .status) (t .seq) (t .decimals) (t .line) .answer ≡ t .answer)
+    × (blockReadoutReply r (t .meter) (t .status) (t .seq) (t .decimals) energyBlock (t .line) .answer ≡ t .answer)
+    × (blockReadoutReply r (t .meter) (t .status) (t .seq) (t .decimals) damaged (t .line) .answer ≡ refused 16 0)
 
 -- what is there after it
 pub record ReadoutCases (setup : Setup) (buffer : List ℕ) : Type 0 where

@@ -43,7 +43,7 @@ billIn c journal j =
     }
     else record { amount = 0; closed = 0; stamp = 0; reset = false }
 
--- a meter: its last accepted reading
+-- a meter: its last accepted reading, and its stamp
 abbrev pub meterIn : Reading → Meter
 meterIn m = record { read = m .read; stamp = m .stamp; value = m .value; status = m .status; seq = m .seq }
 

@@ -5,6 +5,11 @@ pub data Answer (A : Type 0) : Type 0 where
   given : A → Answer A
   refused : ℕ → ℕ → Answer A
 
+-- document 01's number of an answer: that of the refusal, 0 where there is none
+abbrev pub numberIn : {A : Type 0} → Answer A → ℕ
+numberIn (given x) = 0
+numberIn (refused n offset) = n
+
 -- a reply to a call: document 01's number, 0 where the call was taken, and what is there after it
 pub record Reply (S : Type 0) : Type 0 where
   pub number : ℕ

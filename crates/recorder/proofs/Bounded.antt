@@ -8,7 +8,7 @@ use native.Mathlib.Nat.{mod-lt, mod-self, mul-one, suc-mul, add-mul-mod-self-lef
 use native.Mathlib.Omega.{arith}
 use lib.Dec.{ltb, leb, eqb}
 use lib.IntN.{ℤ}
-use lib.ListN.{getD, getD-replicate}
+use lib.ListN.{getD-replicate}
 use borrow.Author.Tests.{ltb-true, leb-true, eqb-true, eqb-false, ne-eqb, le-ltb}
 use Rattle.laws.proofs.If.{if-cases}
 use Rattle.laws.proofs.Tests.{by-test, and-left, and-right, or-right}
@@ -26,7 +26,7 @@ use Rattle.counting.specs.Units.{unitsOf, heldSum}
 use Rattle.sampling.specs.Periods.{multiple, begunAnew, clearedLines, tickOf}
 use Rattle.sampling.specs.Samples.{bookingOf, activeLines, bookingOn, putIn, countedOf, clockEnd, sampleOf}
 use Rattle.recorder.specs.Clock.{setTo, setDated, setOf, resetOf}
-use Rattle.recorder.specs.Meters.{readingOf}
+use Rattle.recorder.specs.Meters.{Stamping, readingAnswer, afterReading}
 use Rattle.recorder.specs.Calls.{freshState, freshStart}
 use Rattle.recorder.specs.History.{Call, sample, set as set-call, reading, reset, after, afterAll}
 use Rattle.recorder.specs.Laws.{Sound, Good, Bounded, ReachedIsBounded, HoldNeverActs}
@@ -202,18 +202,11 @@ module _ (c : Config) (w : Within c) where
   dated-filled s time (given m) f = set-filled s time
   dated-filled s time (refused n offset) f = f
 
-  -- the state after a reading
-  reading-filled : (s : State) → Filled c s (s .samples) → (meter : ℕ) (value : ℤ) (status seq : ℕ)
-      → Filled c (replyTo s (readingOf c s meter value status seq) .after) (replyTo s (readingOf c s meter value status seq) .after .samples)
-  unfolding readingOf
-  reading-filled s f meter value status seq =
-      let kept : Answer State → Type 0 = λ a. Filled c (replyTo s a .after) (replyTo s a .after .samples) in
-      if-cases kept (ltb 31 meter) (λ e. f)
-      (λ e.
-      if-cases kept (eqb (getD (c .limits) meter 0) 0) (λ g. f)
-      (λ g.
-      if-cases kept (ltb 7 status || ltb 31 seq) (λ k. f)
-      (λ k. record { began = f .began; within = f .within; filled = f .filled })))
+  -- the state after a reading, taken or refused
+  reading-filled : (s : State) → Filled c s (s .samples) → (meter : ℕ) (value : ℤ) (status seq : ℕ) (a : Answer Stamping)
+      → Filled c (afterReading s meter value status seq a) (afterReading s meter value status seq a .samples)
+  reading-filled s f meter value status seq (given x) = record { began = f .began; within = f .within; filled = f .filled }
+  reading-filled s f meter value status seq (refused n offset) = f
 
   -- the state after a billing reset
   reset-filled : (s : State) → Filled c s (s .samples) → Filled c (resetOf c s) (resetOf c s .samples)
@@ -226,7 +219,8 @@ after-filled : (r : Recorder) (call : Call) → Within (r .config) → Sound (r 
 unfolding setOf
 after-filled r (sample bits) w h f = sample-filled (r .config) w (r .state) h f bits
 after-filled r (set-call time) w h f = dated-filled (r .config) w (r .state) time (momentOf time) f
-after-filled r (reading meter value status seq) w h f = reading-filled (r .config) w (r .state) f meter value status seq
+after-filled r (reading meter value status seq) w h f =
+    reading-filled (r .config) w (r .state) f meter value status seq (readingAnswer (r .config) (r .state) meter status seq)
 after-filled r reset w h f = reset-filled (r .config) w (r .state) f
 
 -- a line with nothing on it

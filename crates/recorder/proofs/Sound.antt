@@ -1,13 +1,13 @@
 -- Every state that calls can reach is sound: by induction over the calls.
 use mathlib.Core.Path.{_≡_, refl, _∙_}
-use mathlib.Core.Bool.{Bool, true, false, _||_}
+use mathlib.Core.Bool.{Bool, true, false}
 use mathlib.Core.List.{List, [], _∷_}
 use Prim.Native.Nat.{ℕ, _+_, _<_, _≤_}
 use native.Mathlib.Nat.{add-zero, mod-lt, zero-lt-suc}
 use native.Mathlib.Omega.{arith}
-use lib.Dec.{ltb, leb, eqb}
+use lib.Dec.{ltb, leb}
 use lib.IntN.{ℤ}
-use lib.ListN.{getD, length-set, length-replicate, getD-replicate}
+use lib.ListN.{length-set, length-replicate, getD-replicate}
 use borrow.Author.Tests.{ltb-true, ltb-false, leb-false, ne-eqb}
 use Rattle.laws.proofs.If.{if-cases}
 use Rattle.laws.proofs.Tests.{by-test}
@@ -27,7 +27,7 @@ use Rattle.counting.specs.Bills.{registerAt, billAt, fillsUp, dueOf, billed, bo
 use Rattle.sampling.specs.Periods.{multiple, begunAnew, clearedLines, tickOf}
 use Rattle.sampling.specs.Samples.{bookingOf, activeLines, bookingOn, putIn, countedOf, clockEnd, sampleOf}
 use Rattle.recorder.specs.Clock.{setTo, setDated, setOf, closedBill, resetOf}
-use Rattle.recorder.specs.Meters.{readingOf}
+use Rattle.recorder.specs.Meters.{Stamping, readingAnswer, afterReading}
 use Rattle.recorder.specs.Calls.{freshState, freshStart}
 use Rattle.recorder.specs.History.{Call, sample, set as set-call, reading, reset, after, afterAll}
 use Rattle.recorder.specs.Laws.{SoundLines, SoundBills, Sound, ReachedIsSound, StartStays}
@@ -172,23 +172,18 @@ module _ (c : Config) (s : State) (h : Sound c s) where
   dated-sound time (given m) = set-sound c s h time
   dated-sound time (refused n offset) = h
 
-  -- the state after a reading
-  reading-sound : (meter : ℕ) (value : ℤ) (status seq : ℕ) → Sound c (replyTo s (readingOf c s meter value status seq) .after)
-  unfolding readingOf
-  reading-sound meter value status seq =
-      if-cases (λ a. Sound c (replyTo s a .after)) (ltb 31 meter) (λ e. h)
-      (λ e.
-      if-cases (λ a. Sound c (replyTo s a .after)) (eqb (getD (c .limits) meter 0) 0) (λ f. h)
-      (λ f.
-      if-cases (λ a. Sound c (replyTo s a .after)) (ltb 7 status || ltb 31 seq) (λ g. h)
-      (λ g. record { lines = h .lines; bills = h .bills; meters = simp length-set (h .meters); samples = h .samples })))
+  -- the state after a reading, taken or refused
+  reading-sound : (meter : ℕ) (value : ℤ) (status seq : ℕ) (a : Answer Stamping) → Sound c (afterReading s meter value status seq a)
+  reading-sound meter value status seq (given x) = record { lines = h .lines; bills = h .bills; meters = simp length-set (h .meters); samples = h .samples }
+  reading-sound meter value status seq (refused n offset) = h
 
 -- the state after a call
 after-sound : (r : Recorder) (call : Call) → Sound (r .config) (r .state) → Sound (r .config) (after r call .state)
 unfolding setOf
 after-sound r (sample bits) h = sample-sound (r .config) (r .state) h bits
 after-sound r (set-call time) h = dated-sound (r .config) (r .state) h time (momentOf time)
-after-sound r (reading meter value status seq) h = reading-sound (r .config) (r .state) h meter value status seq
+after-sound r (reading meter value status seq) h =
+    reading-sound (r .config) (r .state) h meter value status seq (readingAnswer (r .config) (r .state) meter status seq)
 after-sound r reset h = reset-sound (r .config) (r .state) h
 
 -- what a call leaves as the start had it

@@ -12,7 +12,7 @@ use Rattle.profile.specs.Reading.{RecordReply}
 use Rattle.profile.proofs.Unique.{record-apart}
 use Rattle.sampling.proofs.Unique.{sample-apart}
 use Rattle.recorder.specs.Profile.{WithBuffer, withBuffer}
-use Rattle.recorder.specs.Meters.{ageNumber, ageSaid}
+use Rattle.recorder.specs.Meters.{ageNumber, ageSaid, Stamping, renewed, kept, ReadingReply}
 use Rattle.recorder.specs.Calls.{StartAnswered, startNumber, setNumber, readingNumber}
 use Rattle.recorder.specs.Readout.{readoutNumber, readoutSaid}
 use Rattle.recorder.specs.declared.Recorder.{Recorder}
@@ -54,36 +54,41 @@ set-apart = told-apart setNumber back told
     told set.NoDate = refl
 
 -- all answers to a reading
-pub reading-apart : (x y : ReadingAnswer) → readingNumber x ≡ readingNumber y → x ≡ y
-reading-apart = told-apart readingNumber back told
-  where
-    back : ℕ → ReadingAnswer
-    back n = if eqb n 7 then reading.NoMeter else if eqb n 8 then reading.NotFitted else if eqb n 10 then reading.BadReading else reading.Booked
+abbrev readingBack : Answer Stamping → ReadingAnswer
+readingBack (given renewed) = reading.Renewed
+readingBack (given kept) = reading.Kept
+readingBack (refused n offset) = if eqb n 7 then reading.NoMeter else if eqb n 8 then reading.NotFitted else reading.BadReading
 
-    told : (x : ReadingAnswer) → back (readingNumber x) ≡ x
-    told reading.Booked = refl
-    told reading.NoMeter = refl
-    told reading.NotFitted = refl
-    told reading.BadReading = refl
+reading-told : (x : ReadingAnswer) → readingBack (readingNumber x) ≡ x
+reading-told reading.Renewed = refl
+reading-told reading.Kept = refl
+reading-told reading.NoMeter = refl
+reading-told reading.NotFitted = refl
+reading-told reading.BadReading = refl
+
+pub reading-apart : (x y : ReadingAnswer) → readingNumber x ≡ readingNumber y → x ≡ y
+reading-apart = told-apart readingNumber readingBack reading-told
 
 -- to a data set that is to be booked
 pub readout-apart : (x y : ReadoutAnswer) → readoutNumber x ≡ readoutNumber y → x ≡ y
 readout-apart = told-apart readoutNumber back told
   where
-    back : ℕ → ReadoutAnswer
-    back n =
+    back : Answer Stamping → ReadoutAnswer
+    back (given x) = readout.Read (readingBack (given x))
+    back (refused n offset) =
         if eqb n 16 then readout.Block
         else if eqb n 17 then readout.Line
         else if eqb n 18 then readout.NotANumber
         else if eqb n 19 then readout.DoesNotFit
-        else readout.Read (if eqb n 7 then reading.NoMeter else if eqb n 8 then reading.NotFitted else if eqb n 10 then reading.BadReading else reading.Booked)
+        else readout.Read (readingBack (refused n offset))
 
     told : (x : ReadoutAnswer) → back (readoutNumber x) ≡ x
     told readout.Block = refl
     told readout.Line = refl
     told readout.NotANumber = refl
     told readout.DoesNotFit = refl
-    told (readout.Read reading.Booked) = refl
+    told (readout.Read reading.Renewed) = refl
+    told (readout.Read reading.Kept) = refl
     told (readout.Read reading.NoMeter) = refl
     told (readout.Read reading.NotFitted) = refl
     told (readout.Read reading.BadReading) = refl
@@ -186,15 +191,15 @@ set-clock-exit κs a x y e f p q = buffer-same (p ∙ sym q)
 pub reading-once : OneResult reading-reads.Post
 reading-once κs a x y e f p q =
     let s = p ∙ sym q in
-    let answer = reading-apart (x .answer) (y .answer) (ap (λ (r : Reply Recorder). r .number) s) in
-    let recorder = ap (λ (r : Reply Recorder). r .after) s in
+    let answer = reading-apart (x .answer) (y .answer) (ap (λ (r : ReadingReply Recorder). r .answer) s) in
+    let recorder = ap (λ (r : ReadingReply Recorder). r .after) s in
     (λ i. record { answer = answer i; recorder = recorder i })
 
 -- of a data set, with a block around it or without
 readout-same : (x y : MeterReadout) → readoutSaid x ≡ readoutSaid y → x ≡ y
 readout-same x y s =
-    let answer = readout-apart (x .answer) (y .answer) (ap (λ (r : Reply Recorder). r .number) s) in
-    let recorder = ap (λ (r : Reply Recorder). r .after) s in
+    let answer = readout-apart (x .answer) (y .answer) (ap (λ (r : ReadingReply Recorder). r .answer) s) in
+    let recorder = ap (λ (r : ReadingReply Recorder). r .after) s in
     (λ i. record { answer = answer i; recorder = recorder i })
 
 pub readout-once : OneResult readout-reads.Post

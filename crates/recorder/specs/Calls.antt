@@ -16,7 +16,7 @@ use Rattle.profile.specs.Records.{slotsFit}
 use Rattle.profile.specs.Room.{legalLength, freshProfile}
 use Rattle.sampling.specs.Samples.{sampleNumber, sampleOf, samplesOf}
 use Rattle.sampling.specs.Closed.{closedBy, closedIn}
-use Rattle.recorder.specs.Meters.{readingOf}
+use Rattle.recorder.specs.Meters.{Stamping, renewed, kept, ReadingReply, readingOf}
 use Rattle.recorder.specs.Clock.{setOf, resetOf}
 use Rattle.recorder.specs.Profile.{closedBySet, moved, WithBuffer, lentTo}
 use Rattle.sampling.specs.declared.Period.{Period}
@@ -36,7 +36,7 @@ use Rattle.recorder.specs.declared.calls.SetAnswer.the-variants as set
 use Rattle.recorder.specs.declared.calls.SetAnswer.the-variants.{Set, NoDate}
 use Rattle.recorder.specs.declared.calls.Setting.{Setting}
 use Rattle.recorder.specs.declared.calls.ReadingAnswer.{ReadingAnswer}
-use Rattle.recorder.specs.declared.calls.ReadingAnswer.the-variants.{Booked, NoMeter, NotFitted, BadReading}
+use Rattle.recorder.specs.declared.calls.ReadingAnswer.the-variants.{Renewed, Kept, NoMeter, NotFitted, BadReading}
 use Rattle.recorder.specs.declared.calls.Reading.{Reading}
 use Rattle.recorder.specs.declared.samples.Taking.{Taking}
 
@@ -113,12 +113,13 @@ setNumber Set = 0
 setNumber set.ProfileBuffer = 14
 setNumber NoDate = 9
 
--- a reading: 0, 7 NO METER, 8 NOT FITTED or 10 READING
-abbrev pub readingNumber : ReadingAnswer → ℕ
-readingNumber Booked = 0
-readingNumber NoMeter = 7
-readingNumber NotFitted = 8
-readingNumber BadReading = 10
+-- a reading: the stamp was renewed or kept; 7 NO METER, 8 NOT FITTED or 10 READING
+abbrev pub readingNumber : ReadingAnswer → Answer Stamping
+readingNumber Renewed = given renewed
+readingNumber Kept = given kept
+readingNumber NoMeter = refused 7 0
+readingNumber NotFitted = refused 8 0
+readingNumber BadReading = refused 10 0
 
 -- what the code's answer to a sample says of the state
 abbrev pub takenSaid : Taking → Reply State
@@ -129,8 +130,8 @@ abbrev pub setSaid : Setting → Reply State
 setSaid r = record { number = setNumber (r .answer); after = r .state }
 
 -- what the code's answer to a reading says of the state
-abbrev pub readingSaid : Reading → Reply State
-readingSaid r = record { number = readingNumber (r .answer); after = r .state }
+abbrev pub readingSaid : Reading → ReadingReply State
+readingSaid r = record { answer = readingNumber (r .answer); after = r .state }
 
 -- the same of the whole recorder, with the periods that the call closed
 abbrev pub beside : Recorder → Reply State → List Period → Reply Recorder
@@ -139,6 +140,10 @@ beside r reply periods = record { number = reply .number; after = moved r (reply
 -- the same of a run of samples
 abbrev pub runBeside : Recorder → RunReply State → List Period → RunReply Recorder
 runBeside r run periods = record { taken = run .taken; number = run .number; after = moved r (run .after) periods }
+
+-- the same of a reading, which closes no period
+abbrev pub readingBeside : Recorder → ReadingReply State → ReadingReply Recorder
+readingBeside r reply = record { answer = reply .answer; after = moved r (reply .after) [] }
 
 -- the reply to a sample that is lent a buffer as long as at the start
 abbrev pub sampleReply : Recorder → ℕ → Reply Recorder
@@ -157,8 +162,8 @@ setReply r time =
     beside r (replyTo (r .state) answer) (closedBySet answer)
 
 -- the reply to a reading, which is lent nothing
-abbrev pub readingReply : Recorder → ℕ → ℤ → ℕ → ℕ → Reply Recorder
-readingReply r meter value status seq = beside r (replyTo (r .state) (readingOf (r .config) (r .state) meter value status seq)) []
+abbrev pub readingReply : Recorder → ℕ → ℤ → ℕ → ℕ → ReadingReply Recorder
+readingReply r meter value status seq = readingBeside r (readingOf (r .config) (r .state) meter value status seq)
 
 -- the recorder after a billing reset
 abbrev pub resetReply : Recorder → Recorder
@@ -193,5 +198,5 @@ abbrev pub clockSetSaid : ClockSet → Reply Recorder
 clockSetSaid r = record { number = setNumber (r .answer); after = r .recorder }
 
 -- to a reading
-abbrev pub meterReadSaid : MeterRead → Reply Recorder
-meterReadSaid r = record { number = readingNumber (r .answer); after = r .recorder }
+abbrev pub meterReadSaid : MeterRead → ReadingReply Recorder
+meterReadSaid r = record { answer = readingNumber (r .answer); after = r .recorder }

@@ -1,10 +1,11 @@
 -- "A fitted meter is never before its first reading; stale if the clock is past its stamp by more than its limit; else invalid if its IV is set; else awake." CR 2 in place of document 01's words
--- in brackets: "A stamp ahead of the clock shall be stale." And: "The age class .. refuses limit 0 with 8, then STATUS above 7 with 10."
-use mathlib.Core.Bool.{Bool, true, not, _||_}
+-- in brackets: "A stamp ahead of the clock shall be stale." And: "The age class .. refuses limit 0 with 8, then STATUS above 7 with 10." CR 5: "A reading whose SEQ equals the stored one shall replace
+-- value and STATUS but keep the old stamp, after a clock set too, and the call's result says whether the stamp was renewed or kept. A first reading always renews."
+use mathlib.Core.Bool.{Bool, true, false, not, _&&_, _||_}
 use mathlib.Core.List.{List}
 use Prim.Native.Nat.{ℕ, _+_, _%_}
 use lib.Dec.{ltb, eqb}
-use lib.IntN.{ℤ}
+use lib.IntN.{ℤ, pos}
 use lib.ListN.{getD, set}
 use Rattle.laws.specs.If.{if_then_else_}
 use Rattle.laws.specs.Answers.{Answer, given, refused}
@@ -57,10 +58,46 @@ withMeters s meters =
       closed = s .closed;
     }
 
--- a reading: 7 for a meter above 31, 8 for one that is not fitted, 10 for a STATUS above 7 or a SEQ above 31; else it is stamped with the clock
-unfoldable pub readingOf : Config → State → ℕ → ℤ → ℕ → ℕ → Answer State
-readingOf c s meter value status seq =
+-- meter i of a state
+abbrev pub meterAt : List Meter → ℕ → Meter
+meterAt meters i = getD meters i (record { read = false; stamp = 0; value = pos 0; status = 0; seq = 0 })
+
+-- "whether the stamp was renewed or kept"
+pub data Stamping : Type 0 where
+  renewed : Stamping
+  kept : Stamping
+
+-- "A reading whose SEQ equals the stored one shall .. keep the old stamp"; "A first reading always renews"
+unfoldable pub stampingOf : Meter → ℕ → Stamping
+stampingOf m seq = if m .read && eqb (m .seq) seq then kept else renewed
+
+-- the answer to a reading: 7 for a meter above 31, 8 for one that is not fitted, 10 for a STATUS above 7 or a SEQ above 31; else what becomes of the stamp
+unfoldable pub readingAnswer : Config → State → ℕ → ℕ → ℕ → Answer Stamping
+readingAnswer c s meter status seq =
     if ltb 31 meter then refused 7 0
     else if eqb (getD (c .limits) meter 0) 0 then refused 8 0
     else if ltb 7 status || ltb 31 seq then refused 10 0
-    else given (withMeters s (set (s .meters) meter (record { read = true; stamp = s .clock; value = value; status = status; seq = seq })))
+    else given (stampingOf (meterAt (s .meters) meter) seq)
+
+-- a renewed stamp is the clock, a kept one the old
+abbrev pub stampAs : Stamping → Meter → ℕ → ℕ
+stampAs renewed m clock = clock
+stampAs kept m clock = m .stamp
+
+-- the state after a reading that was answered so: value, STATUS and SEQ are replaced; a refused one leaves it
+abbrev pub afterReading : State → ℕ → ℤ → ℕ → ℕ → Answer Stamping → State
+afterReading s meter value status seq (given x) =
+    let stamp = stampAs x (meterAt (s .meters) meter) (s .clock) in
+    withMeters s (set (s .meters) meter (record { read = true; stamp = stamp; value = value; status = status; seq = seq }))
+afterReading s meter value status seq (refused n offset) = s
+
+-- the reply to a reading: whether the stamp was renewed or kept, or the refusal; and what is there after it
+pub record ReadingReply (S : Type 0) : Type 0 where
+  pub answer : Answer Stamping
+  pub after : S
+
+-- the reply to a reading, of the state
+abbrev pub readingOf : Config → State → ℕ → ℤ → ℕ → ℕ → ReadingReply State
+readingOf c s meter value status seq =
+    let answer = readingAnswer c s meter status seq in
+    record { answer = answer; after = afterReading s meter value status seq answer }

@@ -3,22 +3,23 @@
 use mathlib.Core.List.{List}
 use Prim.Native.Nat.{ℕ}
 use lib.IntN.{ℤ}
-use Rattle.laws.specs.Answers.{Answer, given, refused, Reply}
+use Rattle.laws.specs.Answers.{Answer, given, refused}
 use Rattle.laws.specs.If.{if_then_else_}
 use Rattle.readout.specs.Answers.{lineNumber}
 use Rattle.readout.specs.Blocks.{isBlock}
+use Rattle.recorder.specs.Meters.{Stamping, ReadingReply}
 use Rattle.recorder.specs.Calls.{readingNumber, readingReply}
 use Rattle.recorder.specs.declared.Recorder.{Recorder}
 use Rattle.recorder.specs.declared.MeterReadout.{MeterReadout}
 use Rattle.recorder.specs.declared.ReadoutAnswer.{ReadoutAnswer}
 use Rattle.recorder.specs.declared.ReadoutAnswer.the-variants as readout
 
--- a data set: 0, 16 BLOCK, 17 LINE, 18 NOT A NUMBER, 19 DOES NOT FIT 32 BITS, or the number of the reading
-abbrev pub readoutNumber : ReadoutAnswer → ℕ
-readoutNumber readout.Block = 16
-readoutNumber readout.Line = 17
-readoutNumber readout.NotANumber = 18
-readoutNumber readout.DoesNotFit = 19
+-- a data set: 16 BLOCK, 17 LINE, 18 NOT A NUMBER, 19 DOES NOT FIT 32 BITS, or what the reading is answered
+abbrev pub readoutNumber : ReadoutAnswer → Answer Stamping
+readoutNumber readout.Block = refused 16 0
+readoutNumber readout.Line = refused 17 0
+readoutNumber readout.NotANumber = refused 18 0
+readoutNumber readout.DoesNotFit = refused 19 0
 readoutNumber (readout.Read answer) = readingNumber answer
 
 -- a data set that is not booked leaves the recorder
@@ -26,19 +27,19 @@ abbrev pub notBooked : Recorder → ReadoutAnswer → MeterReadout
 notBooked r answer = record { recorder = r; answer = answer }
 
 -- what a number, or its refusal, comes to as a reading
-abbrev pub bookedAs : Recorder → ℕ → ℕ → ℕ → Answer ℤ → Reply Recorder
+abbrev pub bookedAs : Recorder → ℕ → ℕ → ℕ → Answer ℤ → ReadingReply Recorder
 bookedAs r meter status seq (given value) = readingReply r meter value status seq
-bookedAs r meter status seq (refused n offset) = record { number = n; after = r }
+bookedAs r meter status seq (refused n offset) = record { answer = refused n offset; after = r }
 
 -- the reply to a data set that is to be booked as a reading
-unfoldable pub readoutReply : Recorder → ℕ → ℕ → ℕ → ℕ → List ℕ → Reply Recorder
+unfoldable pub readoutReply : Recorder → ℕ → ℕ → ℕ → ℕ → List ℕ → ReadingReply Recorder
 readoutReply r meter status seq decimals line = bookedAs r meter status seq (lineNumber line decimals)
 
 -- to one with a block around it, which is tested first
-unfoldable pub blockReadoutReply : Recorder → ℕ → ℕ → ℕ → ℕ → List ℕ → List ℕ → Reply Recorder
+unfoldable pub blockReadoutReply : Recorder → ℕ → ℕ → ℕ → ℕ → List ℕ → List ℕ → ReadingReply Recorder
 blockReadoutReply r meter status seq decimals block line =
-    if isBlock block then readoutReply r meter status seq decimals line else record { number = 16; after = r }
+    if isBlock block then readoutReply r meter status seq decimals line else record { answer = refused 16 0; after = r }
 
 -- what the code's answer says
-abbrev pub readoutSaid : MeterReadout → Reply Recorder
-readoutSaid r = record { number = readoutNumber (r .answer); after = r .recorder }
+abbrev pub readoutSaid : MeterReadout → ReadingReply Recorder
+readoutSaid r = record { answer = readoutNumber (r .answer); after = r .recorder }

@@ -10,6 +10,8 @@ use image::Register;
 use profile::Profile;
 use sampling::clock::close_with;
 ghost use mathlib.Core.Path.{_≡_};
+ghost use mathlib.Core.Bool.{_&&_};
+ghost use lib.Dec.{eqb};
 ghost use Rattle.laws.specs.Answers.{replyTo};
 ghost use Rattle.profile.specs.Room.{kept, withRecords};
 ghost use Rattle.recorder.specs.Profile.{recordsOf, closedBySet};
@@ -29,8 +31,10 @@ pub struct Setting {
     pub answer: SetAnswer,
 }
 
+// Whether the stamp was renewed or kept, or why the reading was refused.
 pub enum ReadingAnswer {
-    Booked,
+    Renewed,
+    Kept,
     NoMeter,
     NotFitted,
     BadReading,
@@ -80,7 +84,20 @@ pub(crate) fn set(
     }
 }
 
+// A SEQ that the meter has sent already is no sign of life; a first reading repeats nothing.
+fn repeats(stored: Meter, seq: u8) -> bool
+    ensures { λ r. ⌜ r ≡ stored .read && eqb (stored .seq) seq ⌝ }
+{
+    stored.read & (stored.seq == seq)
+}
+
 // A refused reading leaves the state, its stamps too.
+fn refuse_reading(state: State, answer: ReadingAnswer) -> Reading
+    ensures { λ r. ⌜ r ≡ record { state = state; answer = answer } ⌝ }
+{
+    Reading { state, answer }
+}
+
 pub(crate) fn read(
     config: Config,
     state: State,
@@ -89,39 +106,34 @@ pub(crate) fn read(
     status: u8,
     seq: u8,
 ) -> Reading
-    ensures { λ r. ⌜ readingSaid r ≡ replyTo state (readingOf config state meter value status seq) ⌝ }
+    ensures { λ r. ⌜ readingSaid r ≡ readingOf config state meter value status seq ⌝ }
 {
     let place = meter as usize;
     if place > 31 {
-        return Reading {
-            answer: ReadingAnswer::NoMeter,
-            state,
-        };
+        return refuse_reading(state, ReadingAnswer::NoMeter);
     }
     if config.limits[place] == 0 {
-        return Reading {
-            answer: ReadingAnswer::NotFitted,
-            state,
-        };
+        return refuse_reading(state, ReadingAnswer::NotFitted);
     }
     if (status > 7) | (seq > 31) {
-        return Reading {
-            answer: ReadingAnswer::BadReading,
-            state,
-        };
+        return refuse_reading(state, ReadingAnswer::BadReading);
     }
-    let mut next = state;
-    next.meters[place] = Meter {
+    let stored = state.meters[place];
+    let mut answer = ReadingAnswer::Renewed;
+    let mut stamp = state.clock;
+    if repeats(stored, seq) {
+        answer = ReadingAnswer::Kept;
+        stamp = stored.stamp;
+    }
+    let mut state = state;
+    state.meters[place] = Meter {
         read: true,
-        stamp: state.clock,
+        stamp,
         value,
         status,
         seq,
     };
-    Reading {
-        answer: ReadingAnswer::Booked,
-        state: next,
-    }
+    Reading { state, answer }
 }
 
 // The open amount of a register in use is noted with the clock, and begins anew.

@@ -23,7 +23,8 @@ use Rattle.laws.specs.SignedTotal.{totalℤ}
 use Rattle.laws.proofs.SignedTotal.{abs-add, abs-fits}
 use Rattle.recorder.proofs.Ages.{class-cases}
 use Rattle.sampling.specs.declared.Meter.{Meter}
-use Rattle.registers.specs.Fleet.{meterAt, meterClass, classAt, hasClass, hasAny, awakeValue, awakeSum, classesOf, fleetOf}
+use Rattle.recorder.specs.Meters.{meterAt}
+use Rattle.registers.specs.Fleet.{meterClass, classAt, hasClass, hasAny, awakeValue, awakeSum, classesOf, fleetOf}
 use Rattle.registers.specs.Laws.{OnesAreCounts, FittedCounted, CountsAddUp, SumExact}
 
 pub ones-are-counts : OnesAreCounts

@@ -17,7 +17,8 @@ use Rattle.recorder.specs.declared.Recorder.{Recorder}
 use Rattle.counting.specs.declared.Bill.{Bill}
 use Rattle.sampling.specs.declared.Meter.{Meter}
 use Rattle.registers.specs.Contents.{statusShown, serialBytes, meterBytes, mapBytes, resultBytes, dailyBytes, weeklyBytes, level9Bytes, levelBytes, billBytes, filterBytes, fleetBytes, clockBytes}
-use Rattle.registers.specs.Fleet.{meterAt, meterClass, classAt}
+use Rattle.recorder.specs.Meters.{meterAt}
+use Rattle.registers.specs.Fleet.{meterClass, classAt}
 use Rattle.registers.specs.Registers.{Group, groups, lookUp, groupOf, heldBy, RegisterReply, refusal, registerRead, replyOf, registerReply}
 use Rattle.registers.specs.Laws.{BytesAsTable, RefusedLeaves, GivenFirst, MarkedByClass, UnmarkedByClass}
 use Rattle.registers.proofs.Groups.{each-found, is-given, the}

@@ -23,7 +23,8 @@ use Rattle.counting.specs.declared.Line.{Line}
 use Rattle.profile.specs.Records.{valueAt}
 use Rattle.sampling.specs.declared.Meter.{Meter}
 use Rattle.sampling.specs.declared.State.{State}
-use Rattle.registers.specs.Fleet.{meterAt, classAt}
+use Rattle.recorder.specs.Meters.{meterAt}
+use Rattle.registers.specs.Fleet.{classAt}
 use Rattle.registers.specs.declared.fleet.Fleet.{Fleet}
 
 -- STATUS with its lowest bit, IV, set

@@ -1,5 +1,5 @@
 -- "204 fleet: fitted, awake, stale, invalid, never 1 each; signed sum of awake values 8."
-use mathlib.Core.Bool.{Bool, false, cond}
+use mathlib.Core.Bool.{Bool, cond}
 use mathlib.Core.List.{List}
 use Prim.Native.Nat.{ℕ}
 use lib.Dec.{ltb, eqb}
@@ -9,14 +9,10 @@ use Rattle.laws.specs.If.{if_then_else_}
 use Rattle.laws.specs.Counts.{countOf}
 use Rattle.laws.specs.SignedTotal.{totalℤ}
 use Rattle.laws.specs.Tables.{table}
-use Rattle.recorder.specs.Meters.{classOf}
+use Rattle.recorder.specs.Meters.{classOf, meterAt}
 use Rattle.sampling.specs.declared.Meter.{Meter}
 use Rattle.recorder.specs.declared.Recorder.{Recorder}
 use Rattle.registers.specs.declared.fleet.Fleet.{Fleet}
-
--- meter i of a state
-abbrev pub meterAt : List Meter → ℕ → Meter
-meterAt meters i = getD meters i (record { read = false; stamp = 0; value = pos 0; status = 0; seq = 0 })
 
 -- the class of a meter: 0 awake, 1 stale, 2 invalid, 3 never; 4 where it has no limit and is not fitted
 unfoldable pub meterClass : ℕ → Meter → ℕ → ℕ

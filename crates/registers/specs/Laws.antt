@@ -13,7 +13,8 @@ use Rattle.laws.specs.Counts.{countOf}
 use Rattle.laws.specs.Each.{Each}
 use Rattle.laws.specs.Masks.{maskOf}
 use Rattle.recorder.specs.declared.Recorder.{Recorder}
-use Rattle.registers.specs.Fleet.{meterAt, classAt, classesOf, hasClass, fleetOf}
+use Rattle.recorder.specs.Meters.{meterAt}
+use Rattle.registers.specs.Fleet.{classAt, classesOf, hasClass, fleetOf}
 use Rattle.registers.specs.Registers.{groups, contentsOf, registerReply}
 
 -- each register holds as many bytes as its line of the table has

@@ -25,7 +25,8 @@ use Rattle.laws.proofs.Counts.{ones-mask, ones-mask-le, mask-or}
 use Rattle.laws.specs.SignedTotal.{totalℤ}
 use Rattle.laws.proofs.SignedTotal.{abs-fits, totalℤ-none, totalℤ-turn, totalℤ-done}
 use Rattle.sampling.specs.declared.Meter.{Meter}
-use Rattle.registers.specs.Fleet.{meterAt, meterClass, classAt, hasClass, hasAny, awakeValue, awakeSum, fleetOf}
+use Rattle.recorder.specs.Meters.{meterAt}
+use Rattle.registers.specs.Fleet.{meterClass, classAt, hasClass, hasAny, awakeValue, awakeSum, fleetOf}
 use Rattle.registers.proofs.fleet.fleet_of.Statement.{statement}
 use Rattle.registers.proofs.fleet.fleet_of.Tie as tie
 

@@ -83,7 +83,8 @@ uint64_t recorder_calendar(uint32_t seconds);
  *
  * limit   The meter's age limit in seconds; 0 is a meter that is not fitted. The configuration's limits go to 65,535, and any number is answered.
  * read    Whether there was a reading: 0 no, any other number yes.
- * stamp   The second of the clock at which the reading was taken. 0 is an ordinary time.
+ * stamp   The second of the clock at which the meter was last heard, as its register has it: a reading that repeats the SEQ of the one before it
+ *         does not renew it. 0 is an ordinary time.
  * status  The reading's STATUS, 0 to 7: 1 IV (invalid), 2 CA, 4 CY, added.
  * clock   The present second of the clock.
  *

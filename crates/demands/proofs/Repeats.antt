@@ -22,10 +22,11 @@ use Rattle.recorder.specs.Meters.{meterAt, Stamping, renewed, kept, stampingOf,
 use Rattle.recorder.specs.declared.Setup.{Setup}
 use Rattle.recorder.proofs.Sound.{config-stays}
 use Rattle.sampling.specs.declared.State.{State}
-use Rattle.demands.specs.Account.{Entry, took, ended, cleared, heard, Heard, readingsOf, renews, stampOf, leftBy, lastReading, Account, numberOfReading, answerOfReading, answerOf, withCall, accountOf, journalOf}
+use Rattle.registers.specs.Registers.{registerReply}
+use Rattle.demands.specs.Account.{Entry, took, ended, cleared, heard, Heard, Reading, readingsOf, renews, stampOf, leftBy, lastReading, Account, numberOfReading, answerOfReading, answerOf, withCall, accountOf, journalOf}
 use Rattle.demands.specs.ClockBack.{readIn, aheadIn, pastIn, freshIn}
 use Rattle.demands.specs.Demand2.{reached}
-use Rattle.demands.specs.Repeats.{KeptExactly, Repeats, RepeatsKeep, AwakeWasHeard, AnswersOfReadings, RepeatsShown, KeptNeverWakes, NoSignOfLife}
+use Rattle.demands.specs.Repeats.{KeptExactly, Repeats, RepeatsKeep, AwakeWasHeard, AnswersOfReadings, RepeatsShown, KeptNeverWakes, UnmarkedWasHeard, NoSignOfLife}
 use Rattle.demands.specs.Shown.{awakeIn, serialShown, shown}
 use Rattle.demands.proofs.Agrees.{Agrees, agrees, stamping-is}
 use Rattle.demands.proofs.ClockBack.{one-later, isGiven, isKept, kept-is, taken-is, Taken, entered-is, read, others-read, staleCount, stale-is, fresh-awake}
@@ -218,6 +219,11 @@ awake-was-heard c time calls i e =
     parts true true false true marked e = absurd (true≢false (sym e))
     parts true true false false marked e = (refl, refl, refl)
 
+-- the register of one that is not awake has the mark
+marked-byte : (m : Reading) (rest : List ℕ) → getD (serialShown m false ++ rest) 8 0 % 2 ≡ 1
+unfolding bytesOf
+marked-byte m rest = omega arith
+
 -- A reading that kept the stamp
 
 module _ (c : Config) (a : Account) (meter : ℕ) (value : ℤ) (status seq : ℕ) (again : renews seq (readingsOf (a .journal) meter) ≡ false) where
@@ -306,6 +312,17 @@ module _ (setup : Setup) (lent : ℕ) where
             ∙ ap (λ (bytes : List ℕ). bytes ++ drop n buffer) (shown-as-sent c a meter value status seq again (taken-is c meter status seq number) no-ahead no-past);
       }
 
+  unmarked-was-heard : UnmarkedWasHeard setup lent
+  unfolding shown
+  unmarked-was-heard c accepted time calls meter buffer n answered even =
+      let a = accountOf c time calls in
+      by-test (awakeIn c a meter) (awake-was-heard c time calls meter)
+      (λ f.
+      let bytes : registerReply (reached setup lent c time calls) 82 meter buffer .buffer ≡ serialShown (lastReading (a .journal) meter) false ++ drop n buffer =
+      registers-of-history setup lent c accepted time calls 82 meter buffer n answered
+      ∙ ap (λ (awake : Bool). serialShown (lastReading (a .journal) meter) awake ++ drop n buffer) f in
+      absurd (omega (arith, even, ap (λ (b : List ℕ). getD b 8 0 % 2) bytes, marked-byte (lastReading (a .journal) meter) (drop n buffer))))
+
   pub no-sign-of-life : NoSignOfLife setup lent
   no-sign-of-life =
       record {
@@ -315,4 +332,5 @@ module _ (setup : Setup) (lent : ℕ) where
         shown = repeats-shown;
         never-wakes = kept-never-wakes;
         heard = awake-was-heard;
+        unmarked = unmarked-was-heard;
       }

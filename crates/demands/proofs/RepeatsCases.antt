@@ -20,6 +20,7 @@ use Rattle.laws.specs.Spans.{span}
 use Rattle.laws.specs.Tables.{table}
 use Rattle.laws.specs.Total.{total}
 use Rattle.laws.proofs.Any.{any-none}
+use Rattle.laws.proofs.Each.{each-so}
 use Rattle.laws.proofs.Tests.{by-test}
 use Rattle.calendar.specs.Dates.{monthLength, yearLength}
 use Rattle.calendar.specs.Moments.{yearDay, momentOf}
@@ -311,9 +312,5 @@ module _ (setup : Setup) (lent : ℕ) where
         ap (λ (s : State). meterAt (s .meters) 1) (state-is setup lent twoMakers (two-accepted .good) start (call ∷ t .before)) ∙ second-meter _ ∙ h .1,
       )
 
-  all-hold : (l : List Try) → Each InAccount l → Each (TryClaim setup lent) l
-  all-hold [] h = tt
-  all-hold (t ∷ l) h = (try-holds t (h .0), all-hold l (h .1))
-
   pub repeats-cases : RepeatsCases setup lent
-  repeats-cases = record { day = every-minute; each = all-hold tries tries-hold }
+  repeats-cases = record { day = every-minute; each = each-so InAccount (TryClaim setup lent) try-holds tries tries-hold }

@@ -5,7 +5,7 @@ use mathlib.Core.Path.{_≡_}
 use mathlib.Core.Bool.{true, false}
 use mathlib.Core.List.{List, _∷_, _++_}
 use mathlib.Core.Logic.{_⊎_}
-use Prim.Native.Nat.{ℕ, _+_, _*_, _/_, _≤_}
+use Prim.Native.Nat.{ℕ, _+_, _*_, _/_, _%_, _≤_}
 use lib.IntN.{ℤ}
 use lib.ListN.{getD, take, drop}
 use mir.Syntax.{w32}
@@ -115,6 +115,14 @@ module _ (setup : Setup) (lent : ℕ) where
       (c : Config) → Accepted c → (time : ℕ) (calls : List Call) (meter : ℕ) (value : ℤ) (status seq : ℕ)
       → answerOfReading c (journalOf c time calls) meter status seq ≡ given kept → StampKept c time calls meter value status seq
 
+  -- so after any history each register of group 82 that comes without IV, the lowest bit of its byte 8, is that of a meter which was heard so
+  abbrev pub UnmarkedWasHeard : Type 0
+  UnmarkedWasHeard =
+      (c : Config) → Accepted c → (time : ℕ) (calls : List Call) (meter : ℕ) (buffer : List ℕ) (n : ℕ) →
+      let a = accountOf c time calls in
+      let reply = registerReply (reached setup lent c time calls) 82 meter buffer in
+      reply .answer ≡ given n → getD (reply .buffer) 8 0 % 2 ≡ 0 → HeardWithin c (a .journal) meter (a .time .second)
+
   -- CR 5, in one
   pub record NoSignOfLife : Type 0 where
     pub exactly : KeptExactly
@@ -123,3 +131,4 @@ module _ (setup : Setup) (lent : ℕ) where
     pub shown : RepeatsShown
     pub never-wakes : KeptNeverWakes
     pub heard : AwakeWasHeard
+    pub unmarked : UnmarkedWasHeard

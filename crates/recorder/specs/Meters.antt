@@ -67,9 +67,13 @@ pub data Stamping : Type 0 where
   renewed : Stamping
   kept : Stamping
 
--- "A reading whose SEQ equals the stored one shall .. keep the old stamp"; "A first reading always renews"
+-- "A reading whose SEQ equals the stored one": that of a meter which was read before
+abbrev pub repeats : Meter → ℕ → Bool
+repeats m seq = m .read && eqb (m .seq) seq
+
+-- it shall "keep the old stamp"; "A first reading always renews", and so does any other
 unfoldable pub stampingOf : Meter → ℕ → Stamping
-stampingOf m seq = if m .read && eqb (m .seq) seq then kept else renewed
+stampingOf m seq = if repeats m seq then kept else renewed
 
 -- the answer to a reading: 7 for a meter above 31, 8 for one that is not fitted, 10 for a STATUS above 7 or a SEQ above 31; else what becomes of the stamp
 unfoldable pub readingAnswer : Config → State → ℕ → ℕ → ℕ → Answer Stamping

@@ -10,13 +10,11 @@ use image::Register;
 use profile::Profile;
 use sampling::clock::close_with;
 ghost use mathlib.Core.Path.{_≡_};
-ghost use mathlib.Core.Bool.{_&&_};
-ghost use lib.Dec.{eqb};
 ghost use Rattle.laws.specs.Answers.{replyTo};
 ghost use Rattle.profile.specs.Room.{kept, withRecords};
 ghost use Rattle.recorder.specs.Profile.{recordsOf, closedBySet};
 ghost use Rattle.recorder.specs.Clock.{setTo, setOf, closedBill, resetOf};
-ghost use Rattle.recorder.specs.Meters.{readingOf};
+ghost use Rattle.recorder.specs.Meters.{repeats, readingOf};
 ghost use Rattle.recorder.specs.Calls.{setSaid, readingSaid};
 
 pub enum SetAnswer {
@@ -84,9 +82,9 @@ pub(crate) fn set(
     }
 }
 
-// A SEQ that the meter has sent already is no sign of life; a first reading repeats nothing.
+// The stored SEQ again is no sign of life; a first reading repeats nothing.
 fn repeats(stored: Meter, seq: u8) -> bool
-    ensures { λ r. ⌜ r ≡ stored .read && eqb (stored .seq) seq ⌝ }
+    ensures { λ r. ⌜ r ≡ repeats stored seq ⌝ }
 {
     stored.read & (stored.seq == seq)
 }

@@ -5,7 +5,7 @@ use mathlib.Core.List.{List, [], _∷_, _++_}
 use mathlib.Core.Logic.{_⊎_, ⊎-elim}
 use Prim.Native.Nat.{ℕ, _+_, _*_, _/_, _%_}
 use native.Mathlib.Omega.{arith}
-use borrow.Author.Tests.{eq-eqb, ltb-false, eqb-true, eqb-false}
+use borrow.Author.Tests.{eq-eqb, ne-eqb, ltb-false, eqb-true, eqb-false}
 use lib.Dec.{ltb, eqb}
 use lib.IntN.{ℤ}
 use lib.ListN.{getD, take, drop}
@@ -26,7 +26,7 @@ use Rattle.registers.specs.Registers.{registerReply}
 use Rattle.demands.specs.Account.{Entry, took, ended, cleared, heard, Heard, Reading, readingsOf, renews, stampOf, leftBy, lastReading, Account, numberOfReading, answerOfReading, answerOf, withCall, accountOf, journalOf}
 use Rattle.demands.specs.ClockBack.{readIn, aheadIn, pastIn, freshIn}
 use Rattle.demands.specs.Demand2.{reached}
-use Rattle.demands.specs.Repeats.{KeptExactly, Repeats, RepeatsKeep, AwakeWasHeard, AnswersOfReadings, RepeatsShown, KeptNeverWakes, UnmarkedWasHeard, NoSignOfLife}
+use Rattle.demands.specs.Repeats.{KeptExactly, Silent, Repeats, RepeatsKeep, AwakeWasHeard, AnswersOfReadings, FirstRenews, RepeatsShown, KeptNeverWakes, UnmarkedWasHeard, NoSignOfLife}
 use Rattle.demands.specs.Shown.{awakeIn, serialShown, shown}
 use Rattle.demands.proofs.Agrees.{Agrees, agrees, stamping-is}
 use Rattle.demands.proofs.ClockBack.{one-later, isGiven, isKept, kept-is, taken-is, Taken, entered-is, read, others-read, staleCount, stale-is, fresh-awake}
@@ -112,6 +112,22 @@ reset-readings c a i = refl
 refused-is : (c : Config) (a : Account) (meter : ℕ) (value : ℤ) (status seq : ℕ) → eqb (numberOfReading c meter status seq) 0 ≡ false → withCall c a (reading meter value status seq) ≡ a
 unfolding withCall
 refused-is c a meter value status seq f = rw f
+
+-- a call that is no reading of a meter leaves its readings
+silent-call : (c : Config) (a : Account) (call : Call) (i : ℕ) → Silent i call → readingsOf (withCall c a call .journal) i ≡ readingsOf (a .journal) i
+silent-call c a (sample bits) i silent = one-later c a bits .readings i
+silent-call c a (set seconds) i silent = set-readings c a seconds i
+silent-call c a reset i silent = reset-readings c a i
+silent-call c a (reading meter value status seq) i silent =
+    let readings : Account → List Heard = λ x. readingsOf (x .journal) i in
+    by-test (eqb (numberOfReading c meter status seq) 0)
+    (λ t. ap readings (entered-is c a meter value status seq (eqb-true _ _ t)) ∙ rw (ne-eqb meter i silent))
+    (λ f. ap readings (refused-is c a meter value status seq f))
+
+none-heard : (c : Config) (time : ℕ) (calls : List Call) (i : ℕ) → Each (Silent i) calls → readingsOf (journalOf c time calls) i ≡ []
+unfolding accountOf
+none-heard c time [] i each = refl
+none-heard c time (call ∷ calls) i each = silent-call c (accountOf c time calls) call i (each .0) ∙ none-heard c time calls i (each .1)
 
 -- a call that is no reading of a meter with another SEQ leaves its stamp and its SEQ
 call-keeps : (c : Config) (a : Account) (call : Call) (i seq stamp : ℕ) → Repeats i seq call → Standing seq (readingsOf (a .journal) i) → leftBy (readingsOf (a .journal) i) .stamp ≡ stamp
@@ -207,6 +223,7 @@ awake-was-heard c time calls i e =
       seq = r .seq;
       among = r .among;
       renewing = r .renewing;
+      stamped = refl;
       not-ahead = ltb-false (a .time .second) (m .stamp) (told .1);
       not-past = ltb-false (m .stamp + limit) (a .time .second) (told .2);
     }
@@ -284,6 +301,11 @@ module _ (setup : Setup) (lent : ℕ) where
       subst (λ (k : Config). readingAnswer k s meter status seq ≡ answerOfReading c (journalOf c time calls) meter status seq) (sym (config-stays setup lent c time calls))
       (reading-answer c s (accountOf c time calls) meter status seq (agrees setup lent c time calls))
 
+  first-renews : FirstRenews setup lent
+  first-renews c time calls meter value status seq silent e =
+      let again = kept-is c (journalOf c time calls) meter status seq (sym (answers-of-readings c time calls meter value status seq) ∙ e) .1 in
+      true≢false (rw (none-heard c time calls meter silent) at again)
+
   repeats-shown : RepeatsShown setup lent
   unfolding bytesOf shown
   repeats-shown c accepted time calls later i buffer n read each answered =
@@ -328,6 +350,7 @@ module _ (setup : Setup) (lent : ℕ) where
       record {
         exactly = kept-exactly;
         answers = answers-of-readings;
+        first = first-renews;
         keep = repeats-keep;
         shown = repeats-shown;
         never-wakes = kept-never-wakes;

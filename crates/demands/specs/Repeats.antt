@@ -40,6 +40,13 @@ pub record KeptExactly : Type 0 where
 
 -- Histories
 
+-- a call is no reading of meter i
+abbrev pub Silent : ℕ → Call → Type 0
+Silent i (sample bits) = Unit
+Silent i (set seconds) = Unit
+Silent i (reading meter value status seq) = meter ≡ i → ⊥
+Silent i reset = Unit
+
 -- a call is no reading of meter i, or one with this SEQ
 abbrev pub Repeats : ℕ → ℕ → Call → Type 0
 Repeats i seq (sample bits) = Unit
@@ -54,7 +61,7 @@ RepeatsKeep =
     let m = lastReading (journalOf c time calls) i in
     m .read ≡ true → Each (Repeats i (m .seq)) later → lastReading (journalOf c time (later ++ calls)) i .stamp ≡ m .stamp
 
--- "no sign of life": a meter that is awake was heard within its limit, by a reading that was its first or had another SEQ than the one before it
+-- "no sign of life": a meter that is awake was heard within its limit, by a reading that was its first or had another SEQ than the one before it, and its stamp is from then
 pub record HeardWithin (c : Config) (journal : List Entry) (i now : ℕ) : Type 0 where
   pub later : List Entry
   pub earlier : List Entry
@@ -64,6 +71,7 @@ pub record HeardWithin (c : Config) (journal : List Entry) (i now : ℕ) : Type 
   pub seq : ℕ
   pub among : journal ≡ later ++ (heard second i value status seq ∷ earlier)
   pub renewing : renews seq (readingsOf earlier i) ≡ true
+  pub stamped : lastReading journal i .stamp ≡ second
   pub not-ahead : second ≤ now
   pub not-past : now ≤ second + getD (c .limits) i 0
 
@@ -81,7 +89,13 @@ module _ (setup : Setup) (lent : ℕ) where
       (c : Config) (time : ℕ) (calls : List Call) (meter : ℕ) (value : ℤ) (status seq : ℕ)
       → readingReply (reached setup lent c time calls) meter value status seq .answer ≡ answerOfReading c (journalOf c time calls) meter status seq
 
-  -- so whatever calls come, as long as the readings of a meter repeat its SEQ its register shows the old stamp, in its first four bytes
+  -- "A first reading always renews": where no call before it was a reading of the meter, it is not answered `kept`
+  abbrev pub FirstRenews : Type 0
+  FirstRenews =
+      (c : Config) (time : ℕ) (calls : List Call) (meter : ℕ) (value : ℤ) (status seq : ℕ)
+      → Each (Silent meter) calls → readingReply (reached setup lent c time calls) meter value status seq .answer ≡ given kept → ⊥
+
+  -- whatever calls come, as long as the readings of a meter repeat its SEQ its register shows the old stamp, in its first four bytes
   abbrev pub RepeatsShown : Type 0
   RepeatsShown =
       (c : Config) → Accepted c → (time : ℕ) (calls later : List Call) (i : ℕ) (buffer : List ℕ) (n : ℕ) →
@@ -127,6 +141,7 @@ module _ (setup : Setup) (lent : ℕ) where
   pub record NoSignOfLife : Type 0 where
     pub exactly : KeptExactly
     pub answers : AnswersOfReadings
+    pub first : FirstRenews
     pub keep : RepeatsKeep
     pub shown : RepeatsShown
     pub never-wakes : KeptNeverWakes

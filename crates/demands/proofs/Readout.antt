@@ -44,6 +44,7 @@ answers-of-readouts setup fit c accepted time buffer limits sequence own =
     let calls = callsOf c time sequence in
     rw (reaches setup fit c accepted time buffer limits sequence own)
     (record {
+      readings = λ meter value status seq. answers-of-readings setup _ c time calls meter value status seq;
       readouts = λ meter status seq decimals line. readout-answer setup _ c time calls meter status seq decimals line;
       block-readouts = λ meter status seq decimals block line.
           by-test (isBlock block) (λ t. rw t (readout-answer setup _ c time calls meter status seq decimals line)) (λ t. rw t);

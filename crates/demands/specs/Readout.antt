@@ -12,6 +12,7 @@ use Rattle.readout.specs.Blocks.{isBlock}
 use Rattle.readout.specs.Laws.{Sent, OneSplit, NumberAsWritten, NumberReadBack, LineReadBack, BlockAroundBytes, OneByteChanged}
 use Rattle.readout.specs.Numbers.{Decimal, in32Bits}
 use Rattle.recorder.specs.Meters.{Stamping}
+use Rattle.recorder.specs.Calls.{readingReply}
 use Rattle.recorder.specs.Readout.{readoutReply, blockReadoutReply}
 use Rattle.registers.specs.Registers.{registerReply}
 use Rattle.settings.specs.declared.Config.{Config}
@@ -24,15 +25,16 @@ abbrev pub answerOfReadout : Config → List Entry → ℕ → ℕ → ℕ → A
 answerOfReadout c journal meter status seq (given value) = answerOfReading c journal meter status seq
 answerOfReadout c journal meter status seq (refused n offset) = refused n offset
 
--- what data sets are answered, with a block and without, where this is the journal
+-- what data sets are answered, with a block and without, and readings among them, where this is the journal
 pub record ReadoutAnswered (c : Config) (journal : List Entry) (x : Hall) : Type 0 where
+  pub readings : (meter : ℕ) (value : ℤ) (status seq : ℕ) → readingReply (x .recorder) meter value status seq .answer ≡ answerOfReading c journal meter status seq
   pub readouts : (meter status seq decimals : ℕ) (line : List ℕ)
       → readoutReply (x .recorder) meter status seq decimals line .answer ≡ answerOfReadout c journal meter status seq (lineNumber line decimals)
   pub block-readouts : (meter status seq decimals : ℕ) (block line : List ℕ)
       → blockReadoutReply (x .recorder) meter status seq decimals block line .answer
       ≡ (if isBlock block then answerOfReadout c journal meter status seq (lineNumber line decimals) else refused 16 0)
 
--- after any sequence of calls, data sets among them, each data set is answered so
+-- after any sequence of calls, data sets among them, each data set and each reading is answered so
 abbrev pub AnswersOfReadouts : Type 0
 AnswersOfReadouts =
     AfterAnySequence (λ setup c time buffer sequence.

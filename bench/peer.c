@@ -19,6 +19,10 @@ static uint8_t profile[LONGEST_PROFILE];
 static const struct lent lent = {profile, sizeof profile};
 static const uint8_t slots[CHOSEN] = {0, 1, 2, 3, 4, 5, 6, 7};
 
+/* All that has an even number, for each maker. */
+#define EVEN {0x55555555, 0x5555, 0x5555, 0x5555}
+static const struct list lists[MAKERS] = {EVEN, EVEN, EVEN};
+
 static const struct {
     uint32_t group, registers;
 } groups[] = {{82, 32}, {89, 1}, {90, 32}, {91, 16}, {201, 16}, {202, 16}, {203, 16}, {204, 1}, {206, 1}};
@@ -30,7 +34,7 @@ static uint32_t spread(uint32_t i) { return i * 2654435761u; }
 
 static void start(struct recorder *r) {
     memset(profile, 0, sizeof profile);
-    peer_start(r, lent.length, slots, image, IMAGE_LENGTH, start_time);
+    peer_start(r, lent.length, slots, lists, image, IMAGE_LENGTH, start_time);
     bool renewed;
     for (int i = 0; i < METERS; i++) peer_reading(r, (uint32_t)i, i % 2 == 0 ? i : ~i, (uint32_t)i % 8, (uint32_t)i, &renewed);
 }
@@ -90,6 +94,7 @@ static uint32_t given(int answer) {
     case -12: return 101;
     case -8: return 102;
     case -13: return 103;
+    case -20: return 104;
     default: return (uint32_t)answer;
     }
 }
@@ -113,14 +118,42 @@ static uint32_t read_groups(const struct recorder *r, uint32_t i) {
     return mixed(sum, read_one(r, 206, 0));
 }
 
+/* A recorder whose registers are read. */
+static void to_be_read(struct recorder *r) {
+    size_t taken;
+    start(r);
+    peer_samples(r, lent, bits, SAMPLES, &taken);
+    peer_reset(r);
+}
+
 static void reads(uint32_t rounds) {
     static struct recorder r;
     uint32_t sum = 0;
-    size_t taken;
-    start(&r);
-    peer_samples(&r, lent, bits, SAMPLES, &taken);
-    peer_reset(&r);
+    to_be_read(&r);
     for (uint32_t i = 0; i < rounds; i++) sum = mixed(sum, read_groups(&r, i));
+    printf("%u\n", sum);
+}
+
+/* The same of a maker. */
+static uint32_t read_own(const struct recorder *r, uint32_t group, uint32_t number) {
+    uint8_t bytes[13] = {0};
+    uint32_t n = given(peer_maker_register(r, 1, group, number, bytes, sizeof bytes));
+    return mixed(n, bytes[0]);
+}
+
+static uint32_t own_groups(const struct recorder *r, uint32_t i) {
+    uint32_t sum = read_own(r, 82, i % 32);
+    sum = mixed(sum, read_own(r, 201, i % 16));
+    sum = mixed(sum, read_own(r, 202, i % 16));
+    sum = mixed(sum, read_own(r, 203, i % 16));
+    return mixed(sum, read_own(r, 204, 0));
+}
+
+static void own_reads(uint32_t rounds) {
+    static struct recorder r;
+    uint32_t sum = 0;
+    to_be_read(&r);
+    for (uint32_t i = 0; i < rounds; i++) sum = mixed(sum, own_groups(&r, i));
     printf("%u\n", sum);
 }
 
@@ -197,6 +230,7 @@ int main(int argc, char **argv) {
         case 'o': singles(rounds); break;
         case 'i': images(rounds); break;
         case 'r': reads(rounds); break;
+        case 'm': own_reads(rounds); break;
         case 'c': moments(rounds); break;
         case 'p': closings(rounds); break;
         case 'l': records(rounds); break;

@@ -5,216 +5,14 @@
    It writes the image to the file IMAGE and about COUNT calls to standard output. Odd seeds have a damaged image and few calls; even ones a good image. Among
    these, some first fill a bill register, a rejected count, a long period or a long load profile, by calls of their own: a run needs two lines at least, so thousands
    of them. */
+#include "chance.h"
+
 #include <stdarg.h>
-#include <stdint.h>
 #include <stdio.h>
 #include <stdlib.h>
 #include <string.h>
 
-enum { INPUTS = 16, SUMS = 8, SLOTS = 16, METERS = 32, SEASONS = 8, HOLIDAYS = 32, RULES = 16, BILLS = 16, IMAGE = 1126, LONGER = 3000, RECORD = 69, CHOSEN = 8 };
-
-#define LAST_SECOND 4294967295u
-#define MOST_OPEN 999999999u
-#define DAY 86400u
-
-/* Random numbers: xorshift, with a first value in which each bit of the seed counts. */
-
-static uint64_t chance_state;
-
-static void seed_with(uint64_t seed) {
-  uint64_t z = seed + 0x9e3779b97f4a7c15u;
-  z = (z ^ (z >> 30)) * 0xbf58476d1ce4e5b9u;
-  z = (z ^ (z >> 27)) * 0x94d049bb133111ebu;
-  chance_state = (z ^ (z >> 31)) | 1;
-}
-
-static uint32_t any32(void) {
-  chance_state ^= chance_state >> 12;
-  chance_state ^= chance_state << 25;
-  chance_state ^= chance_state >> 27;
-  return (uint32_t)((chance_state * 0x2545f4914f6cdd1du) >> 32);
-}
-
-static uint32_t below(uint32_t n) { return any32() % n; }
-static uint32_t from_to(uint32_t first, uint32_t last) { return first + below(last - first + 1); }
-static int percent(uint32_t n) { return below(100) < n; }
-
-#define PICK(list) ((list)[below(sizeof(list) / sizeof((list)[0]))])
-
-/* The image, and what the calls have to know of it. */
-
-static unsigned char image[LONGER];
-static unsigned image_length = IMAGE;
-
-static void put1(unsigned at, unsigned n) { image[at] = (unsigned char)n; }
-static void put2(unsigned at, unsigned n) { put1(at, n & 255); put1(at + 1, n >> 8); }
-static unsigned get2(unsigned at) { return image[at] + 256u * image[at + 1]; }
-
-static unsigned kind_of(unsigned i) { return image[6 + 7 * i]; }
-static unsigned shortest_of(unsigned i) { return image[7 + 7 * i]; }
-static unsigned longest_of(unsigned i) { return image[8 + 7 * i]; }
-static unsigned numerator_of(unsigned i) { return get2(9 + 7 * i); }
-static unsigned limit_of(unsigned m) { return get2(198 + 2 * m); }
-static unsigned period_seconds(void) { return image[5] ? 60u * image[5] : 60; }
-
-static unsigned fitted_inputs(void) {
-  unsigned mask = 0;
-  for (unsigned i = 0; i < INPUTS; i++)
-    if (kind_of(i)) mask |= 1u << i;
-  return mask;
-}
-
-/* Line bits in which no line is active, and in which those of a mask are. */
-static unsigned quiet(void) {
-  unsigned bits = 0;
-  for (unsigned i = 0; i < INPUTS; i++)
-    if (kind_of(i) == 2) bits |= 1u << i;
-  return bits;
-}
-
-static unsigned active(unsigned mask) { return quiet() ^ (mask & fitted_inputs()); }
-
-/* A good image. */
-
-static void put_input(unsigned i, unsigned kind, unsigned shortest, unsigned longest, unsigned numerator, unsigned denominator) {
-  unsigned at = 6 + 7 * i;
-  put1(at, kind);
-  put1(at + 1, shortest);
-  put1(at + 2, longest);
-  put2(at + 3, numerator);
-  put2(at + 5, denominator);
-}
-
-static unsigned some_factor(void) {
-  switch (below(5)) {
-  case 0: return 1;
-  case 1: return 10000;
-  case 2: return from_to(1, 10);
-  case 3: return from_to(1, 300);
-  default: return from_to(1, 10000);
-  }
-}
-
-static void some_input(unsigned i) {
-  unsigned shortest, longest;
-  if (percent(12)) {
-    put_input(i, 0, 0, 0, 0, 0);
-    return;
-  }
-  shortest = percent(80) ? from_to(1, 4) : percent(80) ? from_to(1, 20) : from_to(1, 255);
-  longest = percent(30) ? 255 : percent(20) ? shortest : shortest + below(256 - shortest);
-  if (percent(50) && shortest < 200) longest = shortest + below(12);
-  put_input(i, from_to(1, 2), shortest, longest, some_factor(), percent(60) ? from_to(1, 10) : some_factor());
-}
-
-static void some_sums(void) {
-  for (unsigned i = 0; i < SUMS; i++) {
-    unsigned mask = percent(30) ? 65535 : percent(10) ? 0 : below(65536);
-    put2(118 + 2 * i, mask & fitted_inputs());
-  }
-}
-
-static void some_coefficients(void) {
-  static const unsigned edges[] = {0, 1, 127, 129, 255};
-  for (unsigned i = 0; i < 32; i++) {
-    unsigned byte = percent(50) ? PICK(edges) : below(256);
-    put1(134 + i, byte == 128 ? 127 : byte);
-  }
-}
-
-static void some_slot(unsigned i) {
-  unsigned input = below(INPUTS), at = 166 + 2 * i, level = below(10);
-  put2(at, 255);
-  if (level < 3 && kind_of(input)) put2(at, 256 * input);
-  else if (level < 6) put2(at, 1 + 256 * below(SUMS));
-  else if (level < 9) put2(at, 2 + 256 * below(4));
-}
-
-static void some_limits(void) {
-  static const unsigned edges[] = {1, 2, 60, 900, 65535, 256, 255};
-  unsigned missing = below(40);
-  for (unsigned m = 0; m < METERS; m++) put2(198 + 2 * m, percent(missing) ? 0 : percent(50) ? PICK(edges) : from_to(1, 65535));
-}
-
-static void put_window(unsigned daily, unsigned k, unsigned first, unsigned end) {
-  put2(262 + 16 * daily + 4 * k, first);
-  put2(264 + 16 * daily + 4 * k, end);
-}
-
-static void some_window(unsigned daily, unsigned k) {
-  unsigned first = below(1440);
-  switch (below(8)) {
-  case 0: put_window(daily, k, 0, percent(50) ? 1440 : from_to(1, 1440)); break;
-  case 1: put_window(daily, k, first, 1440); break;
-  case 2: put_window(daily, k, first, first + 1); break;
-  case 3: case 4: put_window(daily, k, first, from_to(first + 1, 1440)); break;
-  default: put_window(daily, k, 0, 0);
-  }
-}
-
-static void some_days(unsigned whole) {
-  for (unsigned d = 0; d < 32; d++)
-    for (unsigned k = 0; k < 4; k++) some_window(d, k);
-  for (unsigned d = 0; d < 32; d++)
-    if (percent(whole)) put_window(d, below(4), 0, 1440);
-  for (unsigned i = 0; i < 128; i++) put1(774 + i, percent(15) ? 255 : below(32));
-}
-
-static unsigned leap(unsigned year) { return year % 4 == 0 && (year % 100 != 0 || year % 400 == 0); }
-
-static unsigned days_in(unsigned month, unsigned year) {
-  static const unsigned char days[13] = {0, 31, 28, 31, 30, 31, 30, 31, 31, 30, 31, 30, 31};
-  return days[month] + (month == 2 ? leap(year) : 0);
-}
-
-/* A day and a month of a year, often an edge: the first and the last of a month, the end of February, New Year. */
-static void put_day(unsigned at, unsigned year) {
-  unsigned month = percent(30) ? 2 : percent(20) ? 12 : percent(20) ? 1 : from_to(1, 12);
-  unsigned day = percent(30) ? days_in(month, year) : percent(20) ? 1 : from_to(1, days_in(month, year));
-  put1(at, day);
-  put1(at + 1, month);
-}
-
-static void some_seasons(void) {
-  for (unsigned i = 0; i < SEASONS; i++) {
-    unsigned at = 902 + 4 * i;
-    memset(image + at, 0, 4);
-    if (percent(15)) continue;
-    put_day(at, 2000);
-    put_day(at + 2, 2000);
-    if (percent(15)) memcpy(image + at + 2, image + at, 2);
-  }
-}
-
-static void some_holidays(void) {
-  for (unsigned i = 0; i < HOLIDAYS; i++) {
-    unsigned at = 934 + 4 * i, year = percent(40) ? 0 : percent(20) ? 2106 : percent(20) ? 1970 : from_to(1970, 2106);
-    memset(image + at, 0, 4);
-    if (percent(40)) continue;
-    put_day(at, year ? year : 2000);
-    put2(at + 2, year);
-  }
-}
-
-static void some_rules(void) {
-  for (unsigned i = 0; i < RULES; i++) put2(1062 + 2 * i, percent(10) ? 65535 : (percent(40) ? 255 : below(SEASONS)) + 256 * below(16));
-  for (unsigned i = 0; i < BILLS; i++) put2(1094 + 2 * i, percent(10) ? 65535 : below(SUMS) + 256 * (percent(30) ? 255 : below(RULES)));
-}
-
-static void some_image(void) {
-  static const unsigned minutes[] = {1, 1, 1, 1, 2, 2, 3, 4, 5, 6, 10, 12, 15, 20, 30, 60};
-  memcpy(image, "KRC\1\0", 5);
-  put1(5, PICK(minutes));
-  for (unsigned i = 0; i < INPUTS; i++) some_input(i);
-  some_sums();
-  some_coefficients();
-  for (unsigned i = 0; i < SLOTS; i++) some_slot(i);
-  some_limits();
-  some_days(percent(50) ? 60 : 10);
-  some_seasons();
-  some_holidays();
-  some_rules();
-}
+static unsigned image_length = IMAGE_LENGTH;
 
 /* Damage: each kind breaks another rule of the image's table. Damaged images take turns: the first of a kind gets the first value of its list, and so on. */
 
@@ -231,7 +29,7 @@ static void damage_head(unsigned kind) {
   static const unsigned periods[] = {8, 0, 61, 7, 120, 9, 45, 11, 59, 13, 14, 16, 18, 24, 25, 255};
   switch (kind) {
   case 0: image_length = IN_TURN(lengths); break;
-  case 1: image_length = below(IMAGE); break;
+  case 1: image_length = below(IMAGE_LENGTH); break;
   case 2: put1(turn % 3, below(256)); break;
   case 3: put2(3, IN_TURN(versions)); break;
   case 4: put1(5, IN_TURN(periods)); break;
@@ -317,7 +115,7 @@ static void damage(unsigned kind) {
   if (kind < DATE) { damage_date(kind); return; }
   kind -= DATE;
   if (kind < 2)
-    for (unsigned i = kind ? from_to(2, 9) : 1; i > 0; i--) put1(below(IMAGE), below(256));
+    for (unsigned i = kind ? from_to(2, 9) : 1; i > 0; i--) put1(below(IMAGE_LENGTH), below(256));
   else
     for (unsigned i = kind; i > 0; i--) damage(from_to(HEAD, DAMAGES - ANYWHERE - 1));
 }
@@ -411,10 +209,29 @@ static void surely(const char *command, uint32_t time) {
 static uint32_t lent = 65536;
 static int spoiled;
 
+/* The makers' lists, for the next start and by the last one. */
+static struct list next_lists[MAKERS], lists[MAKERS];
+
+static unsigned some_maker(void) {
+  static const unsigned far[] = {3, 3, 4, 5, 6, 127, 128, 254, 255};
+  return percent(94) ? below(MAKERS) : PICK(far);
+}
+
+static void list_line(unsigned maker) {
+  struct list l = some_list();
+  line("list %u %u %u %u %u", maker, l.meters, l.inputs, l.slots, l.bills);
+  if (maker < MAKERS) next_lists[maker] = l;
+}
+
+static void list_lines(void) {
+  for (unsigned i = from_to(1, 4); i > 0; i--) list_line(some_maker());
+}
+
 static void start(uint32_t time) {
   surely("start", time);
   closed = 0;
-  places = spoiled ? 0 : lent / RECORD;
+  places = spoiled ? 0 : lent / RECORD_LENGTH;
+  memcpy(lists, next_lists, sizeof lists);
 }
 
 /* The eight chosen slots: any, one of them again and again, or the first eight; wrong ones have one above 15 at least. */
@@ -431,7 +248,7 @@ static const char *some_slots(int wrong) {
   return text;
 }
 
-static int legal(uint32_t length) { return length >= RECORD && length <= 65536; }
+static int legal(uint32_t length) { return length >= RECORD_LENGTH && length <= 65536; }
 
 /* Never damaged: else nothing after it would be taken. */
 static void lend(uint32_t length, int wrong) {
@@ -446,14 +263,14 @@ static uint32_t good_length(void) {
   static const uint32_t edges[] = {69, 70, 137, 138, 139, 206, 207, 208, 65480, 65481, 65535, 65536};
   switch (below(6)) {
   case 0: return PICK(edges);
-  case 1: return RECORD * from_to(2, 10) + below(3) - 1;
+  case 1: return RECORD_LENGTH * from_to(2, 10) + below(3) - 1;
   default: return from_to(69, 700);
   }
 }
 
 static uint32_t bad_length(void) {
   static const uint32_t edges[] = {0, 0, 0, 1, 68, 68, 65537, 65538, 65536 + 69, 131072, LAST_SECOND - 1, LAST_SECOND};
-  return percent(80) ? PICK(edges) : percent(50) ? below(RECORD) : from_to(65537, LAST_SECOND);
+  return percent(80) ? PICK(edges) : percent(50) ? below(RECORD_LENGTH) : from_to(65537, LAST_SECOND);
 }
 
 /* Another length than that at the start, often the next, and sometimes the same. */
@@ -461,95 +278,69 @@ static uint32_t other_length(uint32_t than) {
   switch (below(8)) {
   case 0: return than - 1;
   case 1: return than + 1;
-  case 2: return percent(50) ? than - RECORD : than + RECORD;
+  case 2: return percent(50) ? than - RECORD_LENGTH : than + RECORD_LENGTH;
   case 3: return than;
   case 4: case 5: return bad_length();
   default: return good_length();
   }
 }
 
-/* Times: the edges of the clock, periods, days, seasons, holidays and windows. */
-
-static uint32_t day_time(unsigned day, unsigned month, unsigned year) {
-  uint32_t days = day - 1;
-  for (unsigned y = 1970; y < year; y++) days += 365 + leap(y);
-  for (unsigned m = 1; m < month; m++) days += days_in(m, year);
-  return days * DAY;
-}
-
-static uint32_t within_day(uint32_t midnight) {
-  switch (below(4)) {
-  case 0: return midnight;
-  case 1: return midnight + DAY - 1;
-  case 2: return midnight - 1;
-  default: return midnight + below(DAY);
-  }
-}
-
-static unsigned some_year(void) { return percent(15) ? 2100 : percent(15) ? 2000 : from_to(1970, 2105); }
-
-static uint32_t season_time(void) {
-  unsigned at = 902 + 4 * below(SEASONS) + 2 * below(2);
-  if (image[at] == 0 || image[at + 1] == 0 || image[at + 1] > 12) return any32();
-  return within_day(day_time(image[at], image[at + 1], some_year()) + (percent(20) ? DAY : 0));
-}
-
-static uint32_t holiday_time(void) {
-  unsigned at = 934 + 4 * below(HOLIDAYS), year = get2(at + 2);
-  if (image[at] == 0 || image[at + 1] == 0 || image[at + 1] > 12 || year > 2106) return any32();
-  return within_day(day_time(image[at], image[at + 1], year && percent(80) ? year : some_year()));
-}
-
-static uint32_t window_time(void) {
-  unsigned at = 262 + 2 * below(256);
-  uint32_t midnight = (percent(50) ? clock_now : any32()) / DAY * DAY;
-  return midnight + 60 * (get2(at) % 1441) - below(2);
-}
-
-static uint32_t edge_time(void) {
-  static const uint32_t edges[] = {0, 1, 59, 60, 61, 3599, 3600, DAY - 1, DAY, 100000000, 951782399, 951782400, 951868799, 951868800, 2147483647, 2147483648u,
-    4107542399u, 4107542400u, LAST_SECOND, LAST_SECOND - 1, LAST_SECOND - 2};
-  return PICK(edges);
-}
-
-static uint32_t some_time(void) {
-  uint32_t period = period_seconds();
-  switch (below(13)) {
-  case 0: return edge_time();
-  case 1: case 2: return clock_now - clock_now % period + period * below(3) - below(4);
-  case 3: return clock_now - clock_now % DAY + DAY * below(8) + below(3) - 1;
-  case 4: case 5: return season_time();
-  case 6: case 7: return holiday_time();
-  case 8: return window_time();
-  case 9: return day_time(1, 1, from_to(1970, 2106)) - below(3);
-  case 10: return day_time(from_to(27, 28), 2, percent(30) ? 2100 : from_to(1970, 2105)) + below(3) * DAY + (percent(50) ? DAY - 1 : 0);
-  case 11: return percent(50) ? clock_now : clock_now + below(2000) - 1000;
-  default: return any32();
-  }
-}
+static uint32_t some_time(void) { return time_near(clock_now); }
 
 /* Register requests. */
 
-static const unsigned groups[] = {82, 89, 90, 91, 201, 202, 203, 204, 206};
-static const unsigned registers[] = {32, 1, 32, 16, 16, 16, 16, 1, 1};
-static const unsigned lengths[] = {10, 2, 1, 1, 13, 13, 4, 13, 5};
-
-static void register_of(unsigned g, uint32_t n) {
+/* Of the operator or of a maker. */
+static void request(const char *who, unsigned g, uint32_t n) {
   static const uint32_t rooms[] = {0, 1, 12, 13, 14, 255, 256, 65536, LAST_SECOND};
   switch (below(10)) {
-  case 0: line("register %u %u %u", groups[g], n, lengths[g] - 1); break;
-  case 1: line("register %u %u %u", groups[g], n, lengths[g]); break;
-  case 2: line("register %u %u %u", groups[g], n, PICK(rooms)); break;
-  default: line("register %u %u", groups[g], n); break;
+  case 0: line("%s %u %u %u", who, groups[g], n, lengths[g] - 1); break;
+  case 1: line("%s %u %u %u", who, groups[g], n, lengths[g]); break;
+  case 2: line("%s %u %u %u", who, groups[g], n, PICK(rooms)); break;
+  default: line("%s %u %u", who, groups[g], n); break;
   }
 }
 
-static void register_call(void) {
-  static const uint32_t wrong[] = {0, 1, 81, 83, 88, 92, 200, 205, 207, 255, 256, 338, 346, 457, 458, 65536 + 82, LAST_SECOND};
+static void register_of(unsigned g, uint32_t n) { request("register", g, n); }
+
+static uint32_t far_register(void) {
   static const uint32_t far[] = {1, 2, 15, 16, 17, 31, 32, 33, 255, 256, 257, 65536, 65537, LAST_SECOND};
-  unsigned g = below(9);
-  if (percent(4)) line("register %u %u", percent(70) ? PICK(wrong) : below(300), below(40));
-  else register_of(g, percent(92) ? below(registers[g]) : PICK(far));
+  return PICK(far);
+}
+
+static void wrong_group(const char *who) {
+  static const uint32_t wrong[] = {0, 1, 81, 83, 88, 92, 200, 205, 207, 255, 256, 338, 346, 457, 458, 65536 + 82, LAST_SECOND};
+  line("%s %u %u", who, percent(70) ? PICK(wrong) : below(300), percent(70) ? below(40) : far_register());
+}
+
+static void register_call(void) {
+  unsigned g = below(GROUPS);
+  if (percent(4)) wrong_group("register");
+  else register_of(g, percent(92) ? below(registers[g]) : far_register());
+}
+
+/* A maker's fleet directly behind the operator's, so that they can be compared. */
+static void fleets(const char *who) {
+  line("register 204 0");
+  line("%s 204 0", who);
+}
+
+/* What is on the list, what is perhaps not, and what is past the table. */
+static void maker_call(void) {
+  static const unsigned with_list[] = {SERIAL, LEVEL9, BILL, INPUT_REGISTER};
+  char who[12];
+  unsigned maker = some_maker(), g = percent(60) ? PICK(with_list) : below(GROUPS);
+  sprintf(who, "maker %u", maker);
+  switch (below(12)) {
+  case 0: wrong_group(who); break;
+  case 1: request(who, g, far_register()); break;
+  case 2: case 3: fleets(who); break;
+  case 4: case 5: case 6: request(who, g, below(registers[g])); break;
+  default: request(who, g, maker < MAKERS ? one_of(listed(&lists[maker], g)) : 0); break;
+  }
+}
+
+static void maker_calls(void) {
+  for (unsigned k = from_to(1, 3); k > 0; k--) maker_call();
 }
 
 /* What a few registers of a group show. */
@@ -557,12 +348,10 @@ static void show(unsigned g, unsigned count) {
   while (count-- > 0) register_of(g, below(registers[g]));
 }
 
-enum { SERIAL, TARIFF_MAP, DAILY, WEEKLY, LEVEL9, BILL, INPUT_REGISTER, FLEET, CLOCK };
-
 static void show_tariffs(void) {
   register_of(TARIFF_MAP, 0);
-  show(DAILY, below(4));
-  show(WEEKLY, below(4));
+  show(DAILY_RESULT, below(4));
+  show(WEEKLY_RESULT, below(4));
 }
 
 /* Records of the load profile. */
@@ -594,10 +383,6 @@ static void record_call(void) {
 
 /* Calls of one kind each. */
 
-static unsigned some_mask(void) {
-  return percent(50) ? 65535 : percent(40) ? 1u << below(INPUTS) : below(65536);
-}
-
 static unsigned some_bits(void) {
   switch (below(4)) {
   case 0: return below(65536);
@@ -617,20 +402,6 @@ static void burst_call(void) {
   default: n = from_to(1, 12); break;
   }
   samples(some_bits(), n);
-}
-
-/* A run of a length that some input is particular about. */
-static unsigned edge_run(void) {
-  unsigned i = below(INPUTS);
-  switch (below(8)) {
-  case 0: return shortest_of(i) > 1 ? shortest_of(i) - 1 : 1;
-  case 1: case 2: return shortest_of(i) ? shortest_of(i) : 1;
-  case 3: return longest_of(i) ? longest_of(i) : 1;
-  case 4: return longest_of(i) + 1;
-  case 5: return from_to(254, 258);
-  case 6: return 256 + shortest_of(i) + below(3);
-  default: return from_to(1, 5);
-  }
 }
 
 static void run_call(void) {
@@ -670,17 +441,6 @@ static void period_call(void) {
   if (percent(40)) samples(quiet(), period * 100 * (period > 300 ? 1 : from_to(1, 4)));
   show(LEVEL9, 2);
   read_records();
-}
-
-static int some_value(void) {
-  static const int edges[] = {0, 1, -1, 2147483647, -2147483647 - 1, -2147483647, 65535, -65536};
-  return percent(40) ? PICK(edges) : (int)(any32() / 2) - (percent(50) ? 2147483647 : 0);
-}
-
-static unsigned some_status(void) {
-  static const unsigned statuses[] = {0, 0, 0, 2, 4, 6, 1, 3, 5, 7};
-  static const unsigned far[] = {8, 9, 31, 32, 33, 128, 255};
-  return percent(92) ? PICK(statuses) : PICK(far);
 }
 
 /* The last SEQ that was sent for a meter, whether it was accepted or not. */
@@ -731,6 +491,7 @@ static void show_meter(unsigned meter) {
   register_of(SERIAL, meter);
   if (percent(40)) line("fleet");
   else register_of(FLEET, 0);
+  if (percent(30)) maker_call();
 }
 
 /* A reading, and the clock set to an edge of its age. */
@@ -1145,9 +906,11 @@ static void begin(uint32_t time) {
     lend(percent(60) ? bad_length() : good_length(), percent(60));
     start(time);
     register_of(CLOCK, 0);
+    maker_call();
     for (unsigned k = from_to(1, 4); k > 0; k--) lent_call();
   }
   if (spoiled || percent(80)) lend(good_length(), 0);
+  if (percent(85)) list_lines();
   start(time);
 }
 
@@ -1181,7 +944,15 @@ static void wrong_line(void) {
     "blockreadout", "blockreadout ", "blockreadout 0 0 0 0", "blockreadout 0 0 0 0 020303", "blockreadout 0 0 0 0 020303 ", "blockreadout 0 0 0 0 020303\r", "blockreadout 0 0 0 0 (7)",
     "blockreadout 0 0 0 0  (7)", "blockreadout 0 0 0 0 02030 (7)", "blockreadout 0 0 0 0 x (7)", "blockreadout 256 0 0 0 x (7)", "blockreadout 0 256 0 0 x (7)", "blockreadout 0 0 256 0 x (7)",
     "blockreadout 0 0 0 256 x (7)", "blockreadout 0 0 0 256 020303 (7)", "blockreadout 0 0 0 0 - (7)", "blockreadout 0 0 0 0 - ", "blockreadout 0 0 0 0 020303  (7)", "blockreadout 0 0 0 0 020303 (7) ",
-    "blockreadouts 0 0 0 0 020303 (7)", "block readout 0 0 0 0 020303 (7)", "blockreadout x x x x x (7)", "blockreadout  0 0 0 020303 (7)", "blockreadout -0 0 0 0 020303 (7)"};
+    "blockreadouts 0 0 0 0 020303 (7)", "block readout 0 0 0 0 020303 (7)", "blockreadout x x x x x (7)", "blockreadout  0 0 0 020303 (7)", "blockreadout -0 0 0 0 020303 (7)",
+    "list", "list ", "list 0", "list 0 0 0 0", "list 0 0 0 0 ", "list 0 0 0 0 0 ", "list 0 0 0 0 0 0", "list  0 0 0 0 0", "list 0  0 0 0", "lists 0 0 0 0 0", "List 0 0 0 0 0", "list 256 0 0 0 0",
+    "list -0 0 0 0 0", "list x 0 0 0 0", "list 0 4294967296 0 0 0", "list 0 -1 0 0 0", "list 0 +1 0 0 0", "list 0 0x1 0 0 0", "list 0 0 65536 0 0", "list 0 0 0 65536 0", "list 0 0 0 0 65536",
+    "list 0 0 -1 0 0", "list 0 0 0 x 0", "list 0 0 0 0 1.0", "list 256 4294967296 65536 65536 65536", "list 3 4294967296 65536 65536 65536", "list 0 0 65536 65536 65536", "list 0 0 0 65536 65536",
+    "list 0 18446744073709551616 0 0 0", "list 0 0 18446744073709551617 0 0", "list 18446744073709551616 0 0 0 0", "list 0 0 4294967296 0 0", "list 1 0 0 0 0\r\r", "list 3 0 0 0 0\r",
+    "maker", "maker ", "maker 0", "maker 0 82", "maker 0 82 ", "maker 0 82 0 ", "maker 0 82 0 13 ", "maker 0 82 0 13 1", "maker  0 82 0", "maker 0  82 0", "makers 0 206 0", "Maker 0 206 0", "maker 256 206 0",
+    "maker -0 206 0", "maker +1 206 0", "maker x 206 0", "maker 0 4294967296 0", "maker 0 -82 0", "maker 0 82 4294967296", "maker 0 82 -0", "maker 0 82 0 4294967296", "maker 0 82 0 -1", "maker 0 82 0 x",
+    "maker 256 4294967296 4294967296 4294967296", "maker 0 x x x", "maker 0 82 x x", "maker 18446744073709551616 206 0", "maker 0 206 18446744073709551616", "maker 0 206 0\r", "maker 3 206 0\r\r",
+    "maker 3 x 0", "maker 255 205 0 0\r"};
   const char *text = PICK(lines);
   put_line(text, strlen(text));
 }
@@ -1189,7 +960,8 @@ static void wrong_line(void) {
 /* A line filled up by zeros before its number, or by more of a comment, to about 255 bytes, and far longer ones. Some end with a carriage return. */
 static void long_line(void) {
   static const char *const fronts[] = {"date ", "set ", "#", "register 89 ", "reading 0 -", "sample 0 ", "x", "start ", "record ", "record 0 ", "profile ", "dataset 0 ", "dataset 0 (",
-    "dataset ", "readout 0 0 0 0 ", "readout ", "block ", "block 02", "blockreadout 0 0 0 0 ", "blockreadout 0 0 0 0 020303 "};
+    "dataset ", "readout 0 0 0 0 ", "readout ", "block ", "block 02", "blockreadout 0 0 0 0 ", "blockreadout 0 0 0 0 020303 ",
+    "list ", "list 0 ", "list 1 7 0 0 ", "maker ", "maker 0 ", "maker 1 206 ", "maker 2 89 0 "};
   static char text[80000];
   size_t length = percent(90) ? from_to(253, 258) : percent(80) ? from_to(259, 600) : from_to(60000, 79999);
   const char *front = PICK(fronts);
@@ -1223,14 +995,14 @@ static void odd_line(void) {
   case 2: long_line(); break;
   case 3: byte_line(); break;
   case 4: line("reading %u -0 000 %03u", below(METERS), below(32)); break;
-  case 5: line("register 00000000000000000000%u 0", groups[below(9)]); break;
+  case 5: line("%s 00000000000000000000%u 0", percent(50) ? "register" : "maker 01", groups[below(GROUPS)]); break;
   case 6: if (percent(30)) padded_profile(); else line("record 00000%u 00%u", below(held() + 1), from_to(68, 70)); break;
   default: wrong_line(); break;
   }
 }
 
 static void some_call(void) {
-  unsigned n = below(1173);
+  unsigned n = below(1273);
   if (n < 200) samples(some_bits(), 1);
   else if (n < 320) burst_call();
   else if (n < 400) run_call();
@@ -1255,7 +1027,9 @@ static void some_call(void) {
   else if (n < 1110) block_line();
   else if (n < 1140) readout_call(1);
   else if (n < 1170) repeat_call();
-  else round_call();
+  else if (n < 1173) round_call();
+  else if (n < 1268) maker_calls();
+  else list_lines();
 }
 
 static void some_calls(unsigned long until) {
@@ -1411,6 +1185,7 @@ static void long_calls(unsigned long until) {
 static void room_calls(unsigned long until) {
   static const uint32_t lengths[] = {65536, 65481, 65480, 65535};
   lend(PICK(lengths), 0);
+  list_lines();
   start(any32() / 2);
   for (unsigned i = 0; i < 1000; i++) {
     if (percent(20)) impulse(some_mask());
@@ -1432,9 +1207,11 @@ static void general_calls(unsigned long until) {
 static void damaged_calls(unsigned long until) {
   some_calls(below(4));
   if (percent(40)) lend(percent(50) ? bad_length() : good_length(), percent(50));
+  if (percent(50)) list_lines();
   start(some_time());
   line("image");
   register_of(LEVEL9, below(SLOTS));
+  maker_call();
   some_calls(until < 40 ? until : 40);
   begin(some_time());
   show(BILL, 2);

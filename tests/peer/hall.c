@@ -21,6 +21,8 @@ static uint8_t store[LONGEST_PROFILE + 1];
 static struct lent lent = {store, LONGEST_PROFILE};
 static uint8_t slots[CHOSEN] = {0, 1, 2, 3, 4, 5, 6, 7};
 
+static struct list lists[MAKERS]; /* for the next start */
+
 /* ---- The answers. */
 
 static void answer(uint32_t refusal) {
@@ -52,18 +54,25 @@ static void answer_samples(uint16_t bits, uint32_t count) {
     else printf("ok\n");
 }
 
-static void answer_register(uint32_t group, uint32_t number, uint32_t room) {
-    uint8_t bytes[LONGEST_REGISTER];
-    int given = peer_register(&recorder, group, number, bytes, room);
+/* The bytes given, or minus the refusal. */
+static void answer_given(int given, const uint8_t *bytes) {
     if (given < 0) answer((uint32_t)-given);
     else answer_bytes(bytes, (size_t)given);
 }
 
+static void answer_register(uint32_t group, uint32_t number, uint32_t room) {
+    uint8_t bytes[LONGEST_REGISTER];
+    answer_given(peer_register(&recorder, group, number, bytes, room), bytes);
+}
+
+static void answer_maker(uint32_t maker, uint32_t group, uint32_t number, uint32_t room) {
+    uint8_t bytes[LONGEST_REGISTER];
+    answer_given(peer_maker_register(&recorder, maker, group, number, bytes, room), bytes);
+}
+
 static void answer_record(uint32_t index, uint32_t room) {
     uint8_t bytes[RECORD_LENGTH];
-    int given = peer_record(&recorder, lent, index, bytes, room);
-    if (given < 0) answer((uint32_t)-given);
-    else answer_bytes(bytes, (size_t)given);
+    answer_given(peer_record(&recorder, lent, index, bytes, room), bytes);
 }
 
 static void answer_image(void) {
@@ -199,7 +208,7 @@ static void timed_line(void) {
     else if (!number(1, "SECONDS", UINT32_MAX, &time)) return;
     else if (command("date")) answer_date(time);
     else if (command("set")) answer(peer_set_clock(&recorder, lent, time));
-    else answer_at(peer_start(&recorder, lent.length, slots, image, image_length, time));
+    else answer_at(peer_start(&recorder, lent.length, slots, lists, image, image_length, time));
 }
 
 static void sample_line(void) {
@@ -248,6 +257,27 @@ static void register_line(void) {
     if (words != 3 && words != 4) wrong_words("needs GROUP NUMBER or GROUP NUMBER ROOM");
     else if (number(1, "GROUP", UINT32_MAX, &group) && number(2, "NUMBER", UINT32_MAX, &n) && (words == 3 || number(3, "ROOM", UINT32_MAX, &room)))
         answer_register(group, n, room);
+}
+
+static void maker_line(void) {
+    uint32_t maker, group, n, room = LONGEST_REGISTER;
+    if (words != 4 && words != 5) wrong_words("needs MAKER GROUP NUMBER or MAKER GROUP NUMBER ROOM");
+    else if (number(1, "MAKER", 255, &maker) && number(2, "GROUP", UINT32_MAX, &group) && number(3, "NUMBER", UINT32_MAX, &n) &&
+             (words == 4 || number(4, "ROOM", UINT32_MAX, &room)))
+        answer_maker(maker, group, n, room);
+}
+
+static void take_list(uint32_t maker, struct list list) {
+    if (maker < MAKERS) lists[maker] = list;
+    answer(maker < MAKERS ? 0 : NO_MAKER);
+}
+
+static void list_line(void) {
+    uint32_t maker, meters, inputs, listed_slots, bills;
+    if (words != 6) wrong_words("needs MAKER METERS INPUTS SLOTS BILLS");
+    else if (number(1, "MAKER", 255, &maker) && number(2, "METERS", UINT32_MAX, &meters) && number(3, "INPUTS", 65535, &inputs) && number(4, "SLOTS", 65535, &listed_slots) &&
+             number(5, "BILLS", 65535, &bills))
+        take_list(maker, (struct list){meters, (uint16_t)inputs, (uint16_t)listed_slots, (uint16_t)bills});
 }
 
 /* All its numbers are read before any is taken over. */
@@ -302,6 +332,8 @@ static void answer_line(const char *line, size_t length) {
     else if (command("block")) block_line();
     else if (command("blockreadout")) block_readout_line();
     else if (command("register")) register_line();
+    else if (command("maker")) maker_line();
+    else if (command("list")) list_line();
     else if (command("profile")) profile_line();
     else if (command("record")) record_line();
     else if (command("reset") || command("image") || command("fleet")) line_of_one_word();

@@ -171,13 +171,14 @@ static uint32_t start_refusal(size_t lent_length, const uint8_t *slots, const ui
     return peer_image_check(image, length);
 }
 
-uint32_t peer_start(struct recorder *r, size_t lent_length, const uint8_t slots[CHOSEN], const uint8_t *image, size_t length, uint32_t time) {
+uint32_t peer_start(struct recorder *r, size_t lent_length, const uint8_t slots[CHOSEN], const struct list lists[MAKERS], const uint8_t *image, size_t length, uint32_t time) {
     uint32_t refusal = start_refusal(lent_length, slots, image, length);
     memset(r, 0, sizeof *r);
     if (refusal != 0) return refusal;
     r->profile.length = lent_length;
     r->profile.places = (uint32_t)(lent_length / RECORD_LENGTH);
     memcpy(r->profile.slots, slots, CHOSEN);
+    memcpy(r->lists, lists, sizeof r->lists);
     memcpy(r->config.image, image, IMAGE_LENGTH);
     r->config.period = image[PERIOD_AT] * 60u;
     read_inputs(&r->config);
@@ -585,15 +586,23 @@ static enum age age_of(const struct recorder *r, uint32_t i) {
     return age(limit_of(r, i), m->read, m->stamp, m->status, r->clock);
 }
 
+static void count_meter(const struct recorder *r, uint32_t i, struct fleet *f) {
+    if (limit_of(r, i) == 0) return;
+    enum age class = age_of(r, i);
+    f->fitted++;
+    f->count[class]++;
+    if (class == AWAKE) f->sum += r->meters[i].value;
+}
+
 struct fleet peer_fleet(const struct recorder *r) {
     struct fleet f = {0};
-    for (uint32_t i = 0; i < METERS; i++) {
-        if (limit_of(r, i) == 0) continue;
-        enum age class = age_of(r, i);
-        f.fitted++;
-        f.count[class]++;
-        if (class == AWAKE) f.sum += r->meters[i].value;
-    }
+    for (uint32_t i = 0; i < METERS; i++) count_meter(r, i, &f);
+    return f;
+}
+
+static struct fleet fleet_of_list(const struct recorder *r, uint32_t meters) {
+    struct fleet f = {0};
+    for (; meters != 0; meters &= meters - 1) count_meter(r, (uint32_t)__builtin_ctz(meters), &f);
     return f;
 }
 
@@ -625,8 +634,7 @@ static void put_bill(const struct recorder *r, uint32_t j, uint8_t *b) {
     put(b + 9, r->stamp[j], 4);
 }
 
-static void put_fleet(const struct recorder *r, uint8_t *b) {
-    struct fleet f = peer_fleet(r);
+static void put_fleet(struct fleet f, uint8_t *b) {
     b[0] = f.fitted;
     memcpy(b + 1, f.count, 4);
     put(b + 5, (uint64_t)f.sum, 8);
@@ -661,7 +669,7 @@ static void put_register(const struct recorder *r, uint32_t group, uint32_t i, u
     case 201: put_level9(r, i, b); break;
     case 202: put_bill(r, i, b); break;
     case 203: put(b, r->rejected[i], 2); put(b + 2, r->remainder[i], 2); break;
-    case 204: put_fleet(r, b); break;
+    case 204: put_fleet(peer_fleet(r), b); break;
     case 206: put(b, r->clock, 4); b[4] = (uint8_t)r->samples; break;
     }
 }
@@ -676,6 +684,29 @@ int peer_register(const struct recorder *r, uint32_t group, uint32_t number, uin
         return layouts[k].bytes;
     }
     return -NO_GROUP;
+}
+
+/* A number past the table is on no list. */
+static bool listed(uint32_t list, uint32_t number) { return number < 32 && (list >> number & 1) != 0; }
+
+static bool may_read(const struct list *list, uint32_t group, uint32_t number) {
+    switch (group) {
+    case 82: return listed(list->meters, number);
+    case 201: return listed(list->slots, number);
+    case 202: return listed(list->bills, number);
+    case 203: return listed(list->inputs, number);
+    default: return true;
+    }
+}
+
+/* Document 02: "A maker's register request for something not on the list gets NO REGISTER; group 204 covers that maker's meters only; groups 89, 90, 91 and 206 are common ...
+   20 NO MAKER, for a maker above 2, before 11". */
+int peer_maker_register(const struct recorder *r, uint32_t maker, uint32_t group, uint32_t number, uint8_t *buffer, size_t room) {
+    if (maker >= MAKERS) return -NO_MAKER;
+    if (!may_read(&r->lists[maker], group, number)) return -NO_REGISTER;
+    int given = peer_register(r, group, number, buffer, room);
+    if (group == 204 && given > 0) put_fleet(fleet_of_list(r, r->lists[maker].meters), buffer);
+    return given;
 }
 
 /* ---- The load profile. */

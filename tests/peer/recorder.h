@@ -1,5 +1,5 @@
 /*
- * Another recorder: the rules of document 01, of the change requests of document 02 that have landed (1 to 5) and the decided points, in plain C. It shares no code and no
+ * Another recorder: the rules of document 01, of the change requests of document 02 that have landed (1 to 6) and the decided points, in plain C. It shares no code and no
  * definition with the crates.
  *
  * It serves all comparisons: the program hall is compared with it on random calls, on stored answers and on the cases (hall.c beside this file reads the lines), the C
@@ -13,12 +13,12 @@
 #include <stdint.h>
 
 enum { IMAGE_LENGTH = 1126, LONGEST_REGISTER = 13, RECORD_LENGTH = 69, LONGEST_PROFILE = 65536 };
-enum { INPUTS = 16, SUMS = 8, FUNCTIONS = 4, SLOTS = 16, CHOSEN = 8, METERS = 32 };
+enum { INPUTS = 16, SUMS = 8, FUNCTIONS = 4, SLOTS = 16, CHOSEN = 8, METERS = 32, MAKERS = 3 };
 enum { DAILY = 32, WINDOWS = 4, WEEKLY = 16, SEASONS = 8, HOLIDAYS = 32, RULES = 16, BILLS = 16 };
 
 /* "Numbers of refusal." 9, NO DATE, is never given: each time of 32 bits has a date. */
 enum { LENGTH = 1, MARK, VERSION, VALUE, CLOCK_END, FULL, NO_METER, NOT_FITTED, READING = 10, NO_GROUP, NO_REGISTER, NO_ROOM, PROFILE_BUFFER, NO_RECORD, BLOCK, LINE,
-       NOT_A_NUMBER, DOES_NOT_FIT };
+       NOT_A_NUMBER, DOES_NOT_FIT, NO_MAKER };
 
 /* What is fixed: the image, and what samples ask for at every turn, worked out of it once. */
 struct config {
@@ -52,6 +52,12 @@ struct meter {
     int32_t value;
 };
 
+/* What a maker may read: bit i names meter, input, slot or bill register i, in use or not. */
+struct list {
+    uint32_t meters;
+    uint16_t inputs, slots, bills;
+};
+
 struct recorder {
     struct config config;
     uint32_t clock, samples; /* seconds, and samples in this second */
@@ -67,6 +73,7 @@ struct recorder {
     int64_t values[SLOTS]; /* level 9 */
     struct profile profile;
     uint32_t on_known, on; /* the bill registers that units go to in the present minute, if they were asked for */
+    struct list lists[MAKERS];
 };
 
 /* The fitted meters by age class, and what those awake add up to. */
@@ -98,8 +105,8 @@ uint64_t peer_calendar(uint32_t seconds);
 uint32_t peer_age_class(uint32_t limit, uint32_t read, uint32_t stamp, uint32_t status, uint32_t clock);
 
 /* As the image check, after the refusals of the lent buffer's length and of the slots that the load profile keeps. It writes nothing into the buffer, so the length is all
-   that it is given. A refused start leaves the blank recorder, all zeros, and every call on that has its answer, too. */
-uint32_t peer_start(struct recorder *r, size_t lent_length, const uint8_t slots[CHOSEN], const uint8_t *image, size_t length, uint32_t time);
+   that it is given. A refused start leaves the blank recorder, all zeros, with empty lists too, and every call on that has its answer. */
+uint32_t peer_start(struct recorder *r, size_t lent_length, const uint8_t slots[CHOSEN], const struct list lists[MAKERS], const uint8_t *image, size_t length, uint32_t time);
 
 /* Takes samples to the first refusal, which it answers; 0 where all were taken. */
 uint32_t peer_samples(struct recorder *r, struct lent lent, const uint16_t *bits, size_t n, size_t *taken);
@@ -127,6 +134,9 @@ struct fleet peer_fleet(const struct recorder *r);
 
 /* The bytes given, or minus the refusal. */
 int peer_register(const struct recorder *r, uint32_t group, uint32_t number, uint8_t *buffer, size_t room);
+
+/* The same for a maker, who reads what is on the list, and a fleet of the list's meters. */
+int peer_maker_register(const struct recorder *r, uint32_t maker, uint32_t group, uint32_t number, uint8_t *buffer, size_t room);
 
 /* A record of the load profile, the oldest by index 0, as the lent buffer holds it. The bytes given, or minus the refusal. */
 int peer_record(const struct recorder *r, struct lent lent, uint32_t index, uint8_t *buffer, size_t room);

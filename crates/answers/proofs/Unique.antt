@@ -11,6 +11,8 @@ use Rattle.answers.proofs.readout_line.Reads as readout-line-reads
 use Rattle.answers.proofs.block_line.Reads as block-line-reads
 use Rattle.answers.proofs.dataset_line.Reads as dataset-line-reads
 use Rattle.answers.proofs.register_line.Reads as register-line-reads
+use Rattle.answers.proofs.list_line.Reads as list-line-reads
+use Rattle.answers.proofs.maker_line.Reads as maker-line-reads
 use Rattle.answers.proofs.record_line.Reads as record-line-reads
 use Rattle.answers.proofs.image_part.Reads as image-part-reads
 use Rattle.answers.proofs.fleet_line.Reads as fleet-line-reads
@@ -46,6 +48,12 @@ dataset-line κs a x y e f p q = p ∙ sym q
 
 pub register-line : OneResult register-line-reads.Post
 register-line κs a x y e f p q = p ∙ sym q
+
+pub list-line : OneResult list-line-reads.Post
+list-line κs a x y e f p q = p ∙ sym q
+
+pub maker-line : OneResult maker-line-reads.Post
+maker-line κs a x y e f p q = p ∙ sym q
 
 pub record-line : OneResult record-line-reads.Post
 record-line κs a x y e f p q = p ∙ sym q

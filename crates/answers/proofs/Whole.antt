@@ -107,6 +107,8 @@ words-short command.Dataset = omega arith
 words-short command.Readout = omega arith
 words-short command.Block = omega arith
 words-short command.Blockreadout = omega arith
+words-short command.List = omega arith
+words-short command.Maker = omega arith
 
 numbers-short : (p : Parameter) → length (numbersText p) ≤ 60
 unfolding numbersText letters
@@ -124,6 +126,11 @@ numbers-short parameter.Length = omega arith
 numbers-short parameter.Index = omega arith
 numbers-short parameter.Decimals = omega arith
 numbers-short parameter.Hex = omega arith
+numbers-short parameter.Maker = omega arith
+numbers-short parameter.Meters = omega arith
+numbers-short parameter.Inputs = omega arith
+numbers-short parameter.Slots = omega arith
+numbers-short parameter.Bills = omega arith
 numbers-short (parameter.Slot k) = simp length-append (omega (arith, digits k))
 
 mistake-short : (m : Mistake) → length (mistakeText m) ≤ 60

@@ -27,6 +27,8 @@ wordsText command.Dataset = letters "dataset needs DECIMALS TEXT"
 wordsText command.Readout = letters "readout needs METER STATUS SEQ DECIMALS TEXT"
 wordsText command.Block = letters "block needs HEX"
 wordsText command.Blockreadout = letters "blockreadout needs METER STATUS SEQ DECIMALS HEX TEXT"
+wordsText command.List = letters "list needs MAKER METERS INPUTS SLOTS BILLS"
+wordsText command.Maker = letters "maker needs MAKER GROUP NUMBER or MAKER GROUP NUMBER ROOM"
 
 -- what a parameter can be
 unfoldable pub numbersText : Parameter → List ℕ
@@ -44,6 +46,11 @@ numbersText parameter.Length = letters "LENGTH is not a number from 0 to 4294967
 numbersText parameter.Index = letters "INDEX is not a number from 0 to 4294967295"
 numbersText parameter.Decimals = letters "DECIMALS is not a number from 0 to 255"
 numbersText parameter.Hex = letters "HEX is not pairs of hexadecimal digits or -"
+numbersText parameter.Maker = letters "MAKER is not a number from 0 to 255"
+numbersText parameter.Meters = letters "METERS is not a number from 0 to 4294967295"
+numbersText parameter.Inputs = letters "INPUTS is not a number from 0 to 65535"
+numbersText parameter.Slots = letters "SLOTS is not a number from 0 to 65535"
+numbersText parameter.Bills = letters "BILLS is not a number from 0 to 65535"
 numbersText (parameter.Slot k) = letters "S" ++ (decimalOf k ++ letters " is not a number from 0 to 255")
 
 -- what is wrong with a line

@@ -11,24 +11,51 @@ ghost use mathlib.Core.Path.{_≡_};
 ghost use Rattle.answers.specs.Texts.{withBytes};
 ghost use Rattle.answers.specs.Errors.{wordsText, numbersText, mistakeText};
 
+// What each command needs, a row for each.
+const NEEDS: [u8; 553] = *b"start needs SECONDS\n\
+    sample needs BITS or BITS COUNT\n\
+    set needs SECONDS\n\
+    reading needs METER VALUE STATUS SEQ\n\
+    reset stands alone\n\
+    register needs GROUP NUMBER or GROUP NUMBER ROOM\n\
+    image stands alone\n\
+    date needs SECONDS\n\
+    fleet stands alone\n\
+    profile needs LENGTH S0 S1 S2 S3 S4 S5 S6 S7\n\
+    record needs INDEX or INDEX ROOM\n\
+    dataset needs DECIMALS TEXT\n\
+    readout needs METER STATUS SEQ DECIMALS TEXT\n\
+    block needs HEX\n\
+    blockreadout needs METER STATUS SEQ DECIMALS HEX TEXT\n\
+    list needs MAKER METERS INPUTS SLOTS BILLS\n\
+    maker needs MAKER GROUP NUMBER or MAKER GROUP NUMBER ROOM";
+
+// What each parameter can be. The last row stands behind the name of a slot.
+const LIMITS: [u8; 809] = *b"SECONDS is not a number from 0 to 4294967295\n\
+    BITS is not a number from 0 to 65535\n\
+    COUNT is not a number from 0 to 4294967295\n\
+    METER is not a number from 0 to 255\n\
+    VALUE is not a number from -2147483648 to 2147483647\n\
+    STATUS is not a number from 0 to 255\n\
+    SEQ is not a number from 0 to 255\n\
+    GROUP is not a number from 0 to 4294967295\n\
+    NUMBER is not a number from 0 to 4294967295\n\
+    ROOM is not a number from 0 to 4294967295\n\
+    LENGTH is not a number from 0 to 4294967295\n\
+    INDEX is not a number from 0 to 4294967295\n\
+    DECIMALS is not a number from 0 to 255\n\
+    HEX is not pairs of hexadecimal digits or -\n\
+    MAKER is not a number from 0 to 255\n\
+    METERS is not a number from 0 to 4294967295\n\
+    INPUTS is not a number from 0 to 65535\n\
+    SLOTS is not a number from 0 to 65535\n\
+    BILLS is not a number from 0 to 65535\n\
+    \x20is not a number from 0 to 255";
+
 fn with_words(text: Text, command: Command) -> Text
     ensures { λ r. ⌜ r ≡ withBytes text (wordsText command) ⌝ }
 {
-    let needs: &[u8] = b"start needs SECONDS\n\
-        sample needs BITS or BITS COUNT\n\
-        set needs SECONDS\n\
-        reading needs METER VALUE STATUS SEQ\n\
-        reset stands alone\n\
-        register needs GROUP NUMBER or GROUP NUMBER ROOM\n\
-        image stands alone\n\
-        date needs SECONDS\n\
-        fleet stands alone\n\
-        profile needs LENGTH S0 S1 S2 S3 S4 S5 S6 S7\n\
-        record needs INDEX or INDEX ROOM\n\
-        dataset needs DECIMALS TEXT\n\
-        readout needs METER STATUS SEQ DECIMALS TEXT\n\
-        block needs HEX\n\
-        blockreadout needs METER STATUS SEQ DECIMALS HEX TEXT";
+    let needs: &[u8] = &NEEDS;
     match command {
         Command::Start => with_row(text, needs, 0),
         Command::Sample => with_row(text, needs, 1),
@@ -45,28 +72,15 @@ fn with_words(text: Text, command: Command) -> Text
         Command::Readout => with_row(text, needs, 12),
         Command::Block => with_row(text, needs, 13),
         Command::Blockreadout => with_row(text, needs, 14),
+        Command::List => with_row(text, needs, 15),
+        Command::Maker => with_row(text, needs, 16),
     }
 }
 
 fn with_numbers(text: Text, parameter: Parameter) -> Text
     ensures { λ r. ⌜ r ≡ withBytes text (numbersText parameter) ⌝ }
 {
-    // The last row stands behind the name of a slot.
-    let limits: &[u8] = b"SECONDS is not a number from 0 to 4294967295\n\
-        BITS is not a number from 0 to 65535\n\
-        COUNT is not a number from 0 to 4294967295\n\
-        METER is not a number from 0 to 255\n\
-        VALUE is not a number from -2147483648 to 2147483647\n\
-        STATUS is not a number from 0 to 255\n\
-        SEQ is not a number from 0 to 255\n\
-        GROUP is not a number from 0 to 4294967295\n\
-        NUMBER is not a number from 0 to 4294967295\n\
-        ROOM is not a number from 0 to 4294967295\n\
-        LENGTH is not a number from 0 to 4294967295\n\
-        INDEX is not a number from 0 to 4294967295\n\
-        DECIMALS is not a number from 0 to 255\n\
-        HEX is not pairs of hexadecimal digits or -\n\
-        \x20is not a number from 0 to 255";
+    let limits: &[u8] = &LIMITS;
     match parameter {
         Parameter::Seconds => with_row(text, limits, 0),
         Parameter::Bits => with_row(text, limits, 1),
@@ -82,7 +96,12 @@ fn with_numbers(text: Text, parameter: Parameter) -> Text
         Parameter::Index => with_row(text, limits, 11),
         Parameter::Decimals => with_row(text, limits, 12),
         Parameter::Hex => with_row(text, limits, 13),
-        Parameter::Slot(k) => with_row(with_number(with_byte(text, b'S'), k as u64), limits, 14),
+        Parameter::Maker => with_row(text, limits, 14),
+        Parameter::Meters => with_row(text, limits, 15),
+        Parameter::Inputs => with_row(text, limits, 16),
+        Parameter::Slots => with_row(text, limits, 17),
+        Parameter::Bills => with_row(text, limits, 18),
+        Parameter::Slot(k) => with_row(with_number(with_byte(text, b'S'), k as u64), limits, 19),
     }
 }
 

@@ -8,6 +8,8 @@ use calendar::Dated;
 use image::ImageAnswer;
 use image::WriteAnswer;
 use lines::Mistake;
+use makers::ListAnswer;
+use makers::MakerAnswer;
 use numbers::with_hex;
 use numbers::with_number;
 use numbers::with_signed;
@@ -37,6 +39,8 @@ ghost use Rattle.readout.specs.Answers.{blockAnswer, lineNumber};
 ghost use Rattle.image.specs.Answers.{imageAnswer, writeSaid};
 ghost use Rattle.profile.specs.Reading.{recordSaid};
 ghost use Rattle.registers.specs.Registers.{registerSaid};
+ghost use Rattle.makers.specs.Lists.{listNumber};
+ghost use Rattle.makers.specs.Requests.{makerSaid};
 ghost use Rattle.answers.specs.Texts.{withBytes, asText};
 ghost use Rattle.answers.specs.Numbers.{decimalOf, hexOf};
 ghost use Rattle.answers.specs.Answers.{okLine, refusedLine, refusedAt, refusedAfter, numberLine, readingLine, samplesLine, startLine, registerLine, recordLine, imagePart, blockLine, valueLine, dataSetLine, lineEnd, dateLine, classesText, fleetLine, errorLine};
@@ -211,6 +215,25 @@ pub fn register_line(answer: RegisterAnswer, bytes: [u8; 13]) -> Text
         RegisterAnswer::NoRegister => refused(12),
         RegisterAnswer::NotFitted => refused(8),
         RegisterAnswer::NoRoom => refused(13),
+    }
+}
+
+pub fn list_line(answer: ListAnswer) -> Text
+    ensures { λ r. ⌜ r ≡ asText (numberLine (listNumber answer)) ⌝ }
+{
+    match answer {
+        ListAnswer::Listed => ok(),
+        ListAnswer::NoMaker => refused(20),
+    }
+}
+
+// What a maker is answered: as the operator, where there is such a maker.
+pub fn maker_line(answer: MakerAnswer, bytes: [u8; 13]) -> Text
+    ensures { λ r. ⌜ r ≡ asText (registerLine (makerSaid answer) bytes) ⌝ }
+{
+    match answer {
+        MakerAnswer::NoMaker => refused(20),
+        MakerAnswer::Asked(register) => register_line(register, bytes),
     }
 }
 

@@ -5,7 +5,9 @@ use calendar::Dated;
 use calendar::Moment;
 use image::IMAGE_LENGTH;
 use image::ImageAnswer;
+use makers::MakerAnswer;
 use readout::NumberAnswer;
+use recorder::MakerList;
 use recorder::RecordAnswer;
 use recorder::Recorder;
 use recorder::SampleAnswer;
@@ -15,6 +17,14 @@ use registers::RegisterAnswer;
 
 // Tuesday 01.04.1997, 00:00.
 const START: u32 = 859852800;
+
+// A maker's list: all that has an even number.
+const EVEN: MakerList = MakerList {
+    meters: 0x5555_5555,
+    inputs: 0x5555,
+    slots: 0x5555,
+    bills: 0x5555,
+};
 
 // A check sum of 32 bits.
 fn mixed(sum: u64, number: u64) -> u64 {
@@ -44,6 +54,7 @@ fn with_readings(recorder: Recorder) -> Recorder {
 fn started(image: [u8; IMAGE_LENGTH], buffer: &[u8]) -> Recorder {
     let setup = Setup {
         slots: [0, 1, 2, 3, 4, 5, 6, 7],
+        lists: [EVEN; 3],
     };
     let start = Recorder::start(&image, START, setup, buffer);
     let recorder = start.recorder;
@@ -148,6 +159,37 @@ fn reads(recorder: Recorder, rounds: u32) {
     let mut sum: u64 = 0;
     for i in 0..rounds {
         sum = mixed(sum, read_groups(recorder, i));
+    }
+    write_number(sum);
+}
+
+fn own_given(answer: MakerAnswer) -> u64 {
+    match answer {
+        MakerAnswer::NoMaker => 104,
+        MakerAnswer::Asked(register) => given(register),
+    }
+}
+
+// One register that a maker asks for.
+fn own(recorder: Recorder, group: u32, register: u32) -> u64 {
+    let mut bytes = [0u8; 13];
+    let answer = makers::read_own(recorder, 1, group, register, &mut bytes);
+    mixed(own_given(answer), wide(bytes[0]))
+}
+
+// One register of each group that asks the list, by turns on it and off it, and the fleet of its meters.
+fn own_groups(recorder: Recorder, i: u32) -> u64 {
+    let mut sum = own(recorder, 82, i % 32);
+    sum = mixed(sum, own(recorder, 201, i % 16));
+    sum = mixed(sum, own(recorder, 202, i % 16));
+    sum = mixed(sum, own(recorder, 203, i % 16));
+    mixed(sum, own(recorder, 204, 0))
+}
+
+fn own_reads(recorder: Recorder, rounds: u32) {
+    let mut sum: u64 = 0;
+    for i in 0..rounds {
+        sum = mixed(sum, own_groups(recorder, i));
     }
     write_number(sum);
 }
@@ -297,6 +339,11 @@ pub(crate) fn run(
             let run = recorder.samples(&bits, &mut buffer);
             let reset = run.recorder;
             reads(reset.reset_bills(), rounds)
+        }
+        b'm' => {
+            let run = recorder.samples(&bits, &mut buffer);
+            let reset = run.recorder;
+            own_reads(reset.reset_bills(), rounds)
         }
         b'c' => moments(rounds),
         b'p' => {

@@ -42,15 +42,20 @@ use Rattle.readout.specs.Answers.{lineNumber}
 use Rattle.readout.specs.Blocks.{isBlock}
 use Rattle.recorder.specs.Readout.{readoutReply, blockReadoutReply}
 use Rattle.recorder.specs.Calls.{startReply, sampleReply, readingReply, sampleLent, samplesLent, setLent}
+use Rattle.recorder.specs.Lists.{listOf}
+use Rattle.recorder.specs.declared.MakerList.{MakerList}
 use Rattle.recorder.specs.declared.Recorder.{Recorder}
 use Rattle.recorder.specs.declared.Setup.{Setup}
 use Rattle.sampling.specs.declared.State.{State}
-use Rattle.registers.specs.Registers.{Group, groups, lookUp, groupOf, replyOf, registerReply}
+use Rattle.registers.specs.Registers.{Group, groups, lookUp, groupOf, registersOf, replyOf, registerReply}
 use Rattle.registers.proofs.Groups.{none-found}
 use Rattle.registers.proofs.Laws.{refused-leaves}
+use Rattle.makers.specs.Lists.{listReply}
+use Rattle.makers.specs.Requests.{onList, onlyMeters, makerReply}
+use Rattle.makers.proofs.Laws.{refused-to-maker}
 use Rattle.demands.proofs.Sent.{line-then, block-then, lines, blocks, readout-refused, readout-given}
 use Rattle.demands.proofs.Starts.{legal-test, start-test, as-at-start}
-use Rattle.demands.specs.Demand1.{Refusal, at, Ordered, numbered, imageRefusals, noDate, sampleRefusals, readingRefusals, registerRefusals, writeRefusals, ageRefusals, badLength, otherLength, badSlot, recordRefusals, badBlock, lineRefusals, RunEnds, Left, SameLeft, NumbersExact, RefusedChangesNothing, Demand1}
+use Rattle.demands.specs.Demand1.{Refusal, at, Ordered, numbered, imageRefusals, noDate, sampleRefusals, readingRefusals, requestRefusals, registerRefusals, OffList, noMaker, makerRefusals, writeRefusals, ageRefusals, badLength, otherLength, badSlot, recordRefusals, badBlock, lineRefusals, RunEnds, Left, SameLeft, NumbersExact, RefusedChangesNothing, Demand1}
 
 -- a refusal whose condition is a test, and what comes after it
 next : {A : Type 0} (n o : ℕ) {when : Type 0} (rest : List Refusal) (test : Bool) (a : Answer A)
@@ -320,6 +325,74 @@ registers r group register buffer = go (groupOf group) refl
     go (given g) e =
         inr ((λ offset due. true≢false (ap is-given (sym e ∙ none-found groups group (due .1)))), rw e (in-table r register buffer g))
 
+-- a maker's request
+
+-- a register that is on the list is not off it
+on-not-off : (list : MakerList) (group register : ℕ) → onList list group register ≡ true → OffList list group register → ⊥
+unfolding onList
+on-not-off list group register on off =
+    ⊎-elim (λ x. true≢false (sym (rw (x .0) at on) ∙ x .1))
+    (λ others.
+    ⊎-elim (λ x. true≢false (sym (rw (x .0) at on) ∙ x .1))
+    (λ rest. ⊎-elim (λ x. true≢false (sym (rw (x .0) at on) ∙ x .1)) (λ x. true≢false (sym (rw (x .0) at on) ∙ x .1)) rest) others) off
+
+-- one that is not on the list is off it, and its group is in the table
+off-in-table : (list : MakerList) (group register : ℕ) → onList list group register ≡ false → OffList list group register × (Each (λ g. group ≡ g .number → ⊥) groups → ⊥)
+unfolding onList groups
+off-in-table list group register off =
+    by-test (eqb group 82) (λ t. let q = eqb-true group 82 t in (inl (q, rw t at off), λ none. none .0 q))
+    (λ f₁.
+    by-test (eqb group 201) (λ t. let q = eqb-true group 201 t in (inr (inl (q, rw (f₁, t) at off)), λ none. none .1 .1 .1 .1 .0 q))
+    (λ f₂.
+    by-test (eqb group 202) (λ t. let q = eqb-true group 202 t in (inr (inr (inl (q, rw (f₁, f₂, t) at off))), λ none. none .1 .1 .1 .1 .1 .0 q))
+    (λ f₃.
+    by-test (eqb group 203) (λ t. let q = eqb-true group 203 t in (inr (inr (inr (q, rw (f₁, f₂, f₃, t) at off))), λ none. none .1 .1 .1 .1 .1 .1 .0 q))
+    (λ f₄. absurd (true≢false (rw (f₁, f₂, f₃, f₄) at off))))))
+
+-- what is asked of the operator's table is asked of a maker's, where the register is not off the list
+not-off : (off : Type 0) → (off → ⊥) → (r : Recorder) (group register : ℕ) (buffer : List ℕ) (a : Answer ℕ)
+    → Ordered (registerRefusals r group register buffer) a → Ordered (requestRefusals ((registersOf group ≤ register) ⊎ off) r group register buffer) a
+unfolding Ordered
+not-off off on r group register buffer a =
+    ⊎-elim inl
+    (λ x.
+    inr (x .0, ⊎-elim (λ due. inl (due .0, (due .1 .0, inl (due .1 .1)), due .2)) (λ later. inr ((λ offset due. ⊎-elim (λ past. later .0 offset (due .0, past)) on (due .1)), later .1)) (x .1)))
+
+-- where it is off the list, 12 is due, and 11 is not
+no-register : (off : Type 0) → off → (r : Recorder) (group register : ℕ) (buffer : List ℕ) → (Each (λ g. group ≡ g .number → ⊥) groups → ⊥)
+    → Ordered {A = ℕ} (requestRefusals ((registersOf group ≤ register) ⊎ off) r group register buffer) (refused 12 0)
+unfolding Ordered
+no-register off is r group register buffer some = inr ((λ offset due. some (due .1)), inl (0, (refl, inr is), refl))
+
+-- the fleet of a list's meters is refused as that of all
+fleet-refused : (r : Recorder) (mask group register : ℕ) (buffer : List ℕ) → eqb group 204 ≡ true
+    → Ordered (registerRefusals r group register buffer) (registerReply (onlyMeters r mask) group register buffer .answer)
+unfolding Ordered lookUp groups
+fleet-refused r mask group register buffer t = rw (eqb-true group 204 t) (registers (onlyMeters r mask) 204 register buffer)
+
+makers : (r : Recorder) (maker group register : ℕ) (buffer : List ℕ)
+    → Ordered (makerRefusals r maker group register buffer) (makerReply r maker group register buffer .answer)
+unfolding makerReply
+makers r maker group register buffer =
+    next 20 0 _ (ltb 2 maker) _ (λ t. ltb-true 2 maker t) (λ f l. true≢false (sym (lt-ltb 2 maker l) ∙ f)) (λ t. rw t)
+    (λ there.
+    let list = listOf (r .setup .lists) maker in
+    by-test (onList list group register)
+    (λ on.
+    by-test (eqb group 204)
+    (λ t. rw (there, on, t) (not-off (OffList list group register) (on-not-off list group register on) r group register buffer _ (fleet-refused r (list .meters) group register buffer t)))
+    (λ f. rw (there, on, f) (not-off (OffList list group register) (on-not-off list group register on) r group register buffer _ (registers r group register buffer))))
+    (λ off. let is = off-in-table list group register off in rw (there, off) (no-register (OffList list group register) (is .0) r group register buffer (is .1))))
+
+lists : (setup : Setup) (maker : ℕ) (list : MakerList) → Ordered (noMaker maker ∷ []) (numbered (listReply setup maker list .number))
+unfolding listReply
+lists setup maker list =
+    next 20 0 _ (ltb 2 maker) _ (λ t. ltb-true 2 maker t) (λ f l. true≢false (sym (lt-ltb 2 maker l) ∙ f)) (λ t. rw t) (λ f. done tt _ (rw f))
+
+list-leaves : (setup : Setup) (maker : ℕ) (list : MakerList) → (listReply setup maker list .number ≡ 0 → ⊥) → listReply setup maker list .after ≡ setup
+unfolding listReply
+list-leaves setup maker list some = by-test (ltb 2 maker) (λ t. rw t) (λ f. absurd (some (rw f)))
+
 -- Runs of samples
 
 -- no refusal of a sample has the number 0
@@ -385,7 +458,7 @@ runs-leave r run buffer =
 
 pub numbers-exact : NumbersExact
 numbers-exact =
-    record { images = images; starts = starts; samples = samples; runs = runs; sets = sets; readings = readings; lines = lines; blocks = blocks; readouts = readouts; block-readouts = block-readouts; registers = registers; records = records; ages = ages; writes = writes }
+    record { images = images; starts = starts; samples = samples; runs = runs; sets = sets; readings = readings; lines = lines; blocks = blocks; readouts = readouts; block-readouts = block-readouts; registers = registers; makers = makers; lists = lists; records = records; ages = ages; writes = writes }
 
 -- a refused sample leaves the recorder and the buffer
 sample-leaves : (r : Recorder) (bits : ℕ) (buffer : List ℕ) → (sampleLent r bits buffer .reply .number ≡ 0 → ⊥) → Left r buffer (sampleLent r bits buffer)
@@ -441,6 +514,8 @@ refused-changes-nothing =
       readouts = readout-leaves;
       block-readouts = block-readout-leaves;
       registers = refused-leaves;
+      makers = refused-to-maker;
+      lists = list-leaves;
       writes = λ c buffer n o e. rw e;
     }
 

@@ -48,7 +48,7 @@ abbrev big : Input
 big = record { kind = 1; shortest = 1; longest = 1; numerator = 10_000; denominator = 1 }
 
 -- what the induction asks of the configuration
-record Big (c : Config) : Type 0 where
+pub record Big (c : Config) : Type 0 where
   inputs : (i : ℕ) → i < 16 → inputAt (c .inputs) i ≡ big
   names : feeding c 0 ≡ 65_535
   plain : registerAt (c .registers) 0 .rule ≡ 255
@@ -57,15 +57,15 @@ record Big (c : Config) : Type 0 where
   minute : c .period ≡ 1
 
 -- the account after n impulses, m of them since the last reset, with the lines closed (on) or open
-record At (c : Config) (on : Bool) (n m : ℕ) (a : Account) : Type 0 where
-  runs : (i : ℕ) → i < 16 → runOf c i (a .journal) ≡ bit on
-  counts : (i : ℕ) → i < 16 → impulsesOf always i (whole c (a .journal)) ≡ n
-  amount : amountOf c 0 (a .journal) ≡ m * 160_000
-  second : a .time .second ≡ n / 50
-  samples : a .time .samples ≡ n % 50 * 2 + bit on
-  first : a .time .first ≡ n / 3000 * 60
-  units : (i : ℕ) → i < 16 → unitsIn i (inPeriod c (a .journal)) ≡ n % 3000 * 10_000
-  period : 3000 ≤ n → (rest : List Ended) × (periodsOf c (a .journal) ≡ record { state = 2; stamp = n / 3000 * 60; units = table 16 (λ i. 30_000_000) } ∷ rest)
+pub record At (c : Config) (on : Bool) (n m : ℕ) (a : Account) : Type 0 where
+  pub runs : (i : ℕ) → i < 16 → runOf c i (a .journal) ≡ bit on
+  pub counts : (i : ℕ) → i < 16 → impulsesOf always i (whole c (a .journal)) ≡ n
+  pub amount : amountOf c 0 (a .journal) ≡ m * 160_000
+  pub second : a .time .second ≡ n / 50
+  pub samples : a .time .samples ≡ n % 50 * 2 + bit on
+  pub first : a .time .first ≡ n / 3000 * 60
+  pub units : (i : ℕ) → i < 16 → unitsIn i (inPeriod c (a .journal)) ≡ n % 3000 * 10_000
+  pub period : 3000 ≤ n → (rest : List Ended) × (periodsOf c (a .journal) ≡ record { state = 2; stamp = n / 3000 * 60; units = table 16 (λ i. 30_000_000) } ∷ rest)
 
 -- all 16 bits of 65,535 are on
 all-bits : 65_535 ≡ maskOf 16 always
@@ -104,7 +104,7 @@ module _ (c : Config) (h : Big c) where
     not-end : (eqb (a .time .second) 4_294_967_295 && eqb (a .time .samples) 99) ≡ false
     not-end = rw (ne-eqb (a .time .second) 4_294_967_295 (λ e. omega (arith, e)))
 
-    accepts : amountOf c 0 (a .journal) + dueTo c 0 (nextSample c a bits) ≤ 999_999_999 → numberOfSample c a bits ≡ 0
+    pub accepts : amountOf c 0 (a .journal) + dueTo c 0 (nextSample c a bits) ≤ 999_999_999 → numberOfSample c a bits ≡ 0
     unfolding numberOfSample overfull
     accepts within =
         let none : any 16 (overfull c (a .journal) (nextSample c a bits)) ≡ false =
@@ -126,7 +126,7 @@ module _ (c : Config) (h : Big c) where
   up-units : (a : Account) (i : ℕ) → i < 16 → nextSample c a 65_535 .units i ≡ 0
   up-units a i l = rw (closed-on i l, h .inputs i l, div-one, div-one) (omega arith)
 
-  up-gets : (a : Account) → dueTo c 0 (nextSample c a 65_535) ≡ 0
+  pub up-gets : (a : Account) → dueTo c 0 (nextSample c a 65_535) ≡ 0
   up-gets a = gets a 65_535 0 (up-units a) ∙ added-zero (bitAt 65_535) _ 16 (λ i l e. refl)
 
   up : (n m : ℕ) (a : Account) → numberOfSample c a 65_535 ≡ 0 → At c false n m a → At c true n m (withCall c a (sample 65_535))
@@ -153,7 +153,7 @@ module _ (c : Config) (h : Big c) where
   down-gets : (n m : ℕ) (a : Account) → At c true n m a → dueTo c 0 (nextSample c a 0) ≡ 160_000
   down-gets n m a at = gets a 0 10_000 (down-units n m a at) ∙ sixteen
 
-  minutes : (t : ℕ) → multiple (c .period) t ≡ eqb (t % 60) 0
+  pub minutes : (t : ℕ) → multiple (c .period) t ≡ eqb (t % 60) 0
   unfolding multiple
   minutes t = ap (λ (p : ℕ). multiple p t) (h .minute)
 
@@ -253,17 +253,17 @@ module _ (c : Config) (h : Big c) where
       let middle = up n n _ (takes-up n n _ (omega arith) (omega arith) old) old in
       down n n _ (takes-down n n _ (omega arith) l middle) middle
 
-  at-full : At c true 6_249 6_249 (accountOf c 0 (sample 65_535 ∷ pulses 6_249))
+  pub at-full : At c true 6_249 6_249 (accountOf c 0 (sample 65_535 ∷ pulses 6_249))
   unfolding accountOf
   at-full = let old = at-pulses 6_249 (omega arith) in up 6_249 6_249 _ (takes-up 6_249 6_249 _ (omega arith) (omega arith) old) old
 
   -- the next sample is refused, and enters nothing
-  full-number : numberOfSample c (accountOf c 0 (sample 65_535 ∷ pulses 6_249)) 0 ≡ 6
+  pub full-number : numberOfSample c (accountOf c 0 (sample 65_535 ∷ pulses 6_249)) 0 ≡ 6
   full-number =
       let gets = down-gets 6_249 6_249 _ at-full in
       refuses _ 0 (omega (arith, at-full .second)) (omega (arith, gets)) (omega (arith, gets, at-full .amount))
 
-  unchanged : accountOf c 0 (sample 0 ∷ sample 65_535 ∷ pulses 6_249) ≡ accountOf c 0 (sample 65_535 ∷ pulses 6_249)
+  pub unchanged : accountOf c 0 (sample 0 ∷ sample 65_535 ∷ pulses 6_249) ≡ accountOf c 0 (sample 65_535 ∷ pulses 6_249)
   unfolding accountOf withCall
   unchanged = rw full-number
 
@@ -314,11 +314,11 @@ full-alone (suc j) l u = absurd (unused 15 j l (ltb-true _ 8 u))
     unused (suc n) zero l u = omega arith
     unused (suc n) (suc j) l u = unused n j (omega arith) u
 
-full-big : Big fullMaker
+pub full-big : Big fullMaker
 unfolding feeding
 full-big = record { inputs = full-inputs; names = refl; plain = refl; used = refl; alone = full-alone; minute = refl }
 
-full-accepted : Accepted fullMaker
+pub full-accepted : Accepted fullMaker
 full-accepted = record { good = full-good; bytes = λ i l. rw (full-inputs i l) (omega arith) }
 
 full-used : InUse fullMaker 0

@@ -20,10 +20,13 @@ pub mod Profile
 pub mod ClockBack
 pub mod Repeats
 pub mod Readout
+pub mod Views
+pub mod Makers
 pub mod Example
 pub mod ProfileCases
 pub mod ClockBackCases
 pub mod RepeatsCases
 pub mod ReadoutCases
 pub mod Full
+pub mod MakersCases
 pub mod Tightness

@@ -1,9 +1,9 @@
 -- What the registers show: classes, fleet and bytes of the state that the account spells out.
-use mathlib.Core.Path.{_≡_, refl, sym, ap, ap₂, _∙_}
+use mathlib.Core.Path.{_≡_, refl, sym, ap, _∙_}
 use mathlib.Core.Bool.{Bool, true, false, true≢false, not, _&&_, _||_, cond}
 use mathlib.Core.List.{List, [], _∷_, _++_}
-use Prim.Native.Nat.{ℕ, zero, suc, _+_, _%_, _<_}
-use native.Mathlib.Nat.{le-refl, not-suc-le-zero}
+use Prim.Native.Nat.{ℕ, zero, _+_, _%_, _<_}
+use native.Mathlib.Nat.{not-suc-le-zero}
 use native.Mathlib.Omega.{arith}
 use borrow.Author.Tests.{eqb-true, leb-false, not-true}
 use lib.Dec.{ltb, leb, eqb}
@@ -13,10 +13,10 @@ use Rattle.laws.specs.If.{if_then_else_}
 use Rattle.laws.proofs.Tests.{by-test, and-left, and-right}
 use Rattle.laws.specs.Answers.{Answer, given, refused}
 use Rattle.laws.specs.Counts.{countOf}
-use Rattle.laws.specs.Masks.{bit}
 use Rattle.laws.specs.SignedTotal.{totalℤ}
 use Rattle.laws.proofs.Tables.{table-at}
-use Rattle.laws.proofs.Total.{total-cong}
+use Rattle.laws.proofs.Counts.{count-cong}
+use Rattle.laws.proofs.SignedTotal.{totalℤ-cong}
 use Rattle.settings.specs.declared.Config.{Config}
 use Rattle.recorder.specs.Meters.{classOf, meterAt}
 use Rattle.sampling.specs.declared.Meter.{Meter}
@@ -29,7 +29,7 @@ use Rattle.registers.specs.Registers.{Group, groups, lookUp, groupOf, registers
 use Rattle.registers.proofs.Laws.{given-first, marked-by-class, unmarked-by-class}
 use Rattle.demands.specs.Account.{Entry, took, ended, cleared, heard, Heard, readingsOf, leftBy, Account, Reading, lastReading, lastReset, inUse, accountOf}
 use Rattle.demands.specs.State.{lineIn, billIn, meterIn, stateIn}
-use Rattle.demands.specs.Shown.{isNever, isStale, isInvalid, awakeIn, fleetIn, serialShown, billShown, shown}
+use Rattle.demands.specs.Shown.{isNever, isStale, isInvalid, awakeIn, fleetAmong, fleetIn, serialShown, billShown, shown}
 use Rattle.demands.specs.Demand2.{reached, RegistersOfHistory, FleetOfHistory, InvalidMark, AwakeUnmarked}
 use Rattle.demands.proofs.Levels.{recorder-is}
 
@@ -71,16 +71,15 @@ awake-unmarked r meter buffer n e alive =
     let m = meterAt (r .state .meters) meter in
     unmarked-by-class r meter buffer n e (eqb-true _ 0 (classes (getD (r .config .limits) meter 0) m (r .state .clock) .awake ∙ alive))
 
--- sums of parts that agree
-totalℤ-cong : (n : ℕ) (f g : ℕ → ℤ) → ((i : ℕ) → i < n → f i ≡ g i) → totalℤ n f ≡ totalℤ n g
-unfolding totalℤ
-totalℤ-cong zero f g h = refl
-totalℤ-cong (suc n) f g h = rw (h n (le-refl (suc n)), totalℤ-cong n f g (λ i l. h i (omega arith)))
+-- two tests after one another are both
+one-test : (own awake : Bool) (value : ℤ) → cond own (cond awake value (pos 0)) (pos 0) ≡ cond (own && awake) value (pos 0)
+one-test true awake value = refl
+one-test false awake value = refl
 
 -- The recorder that the account spells out
 
 module _ (setup : Setup) (profile : Profile) (c : Config) (a : Account) where
-  abbrev spelled : Recorder
+  abbrev pub spelled : Recorder
   spelled = record { config = c; setup = setup; state = stateIn c a; profile = profile }
 
   abbrev limit : ℕ → ℕ
@@ -109,18 +108,33 @@ module _ (setup : Setup) (profile : Profile) (c : Config) (a : Account) where
   unfolding hasClass awakeIn
   awake-is i l = rw (listed i l) (conditions i .awake)
 
-  fleet-is : fleetOf spelled ≡ fleetIn c a
-  unfolding fleetOf fleetIn hasClass hasAny awakeSum awakeValue
-  fleet-is =
-      let count : (p q : ℕ → Bool) → ((i : ℕ) → i < 32 → p i ≡ q i) → countOf 32 p ≡ countOf 32 q = λ p q same. total-cong 32 _ _ (λ i l. ap bit (same i l)) in
+  -- the fleet of the meters that a test names
+  pub fleet-counts : (own : ℕ → Bool)
+      → record {
+        fitted = countOf 32 (λ i. own i && hasAny (classesOf spelled) i);
+        awake = countOf 32 (λ i. own i && hasClass (classesOf spelled) 0 i);
+        stale = countOf 32 (λ i. own i && hasClass (classesOf spelled) 1 i);
+        invalid = countOf 32 (λ i. own i && hasClass (classesOf spelled) 2 i);
+        never = countOf 32 (λ i. own i && hasClass (classesOf spelled) 3 i);
+        sum = totalℤ 32 (λ i. cond (own i) (awakeValue (classesOf spelled) (stateIn c a .meters) i) (pos 0));
+      }
+      ≡ fleetAmong own c a
+  unfolding hasClass hasAny awakeValue
+  fleet-counts own =
+      let count : (p q : ℕ → Bool) → ((i : ℕ) → i < 32 → p i ≡ q i) → countOf 32 (λ i. own i && p i) ≡ countOf 32 (λ i. own i && q i) =
+      λ p q same. count-cong 32 _ _ (λ i l. ap (λ (x : Bool). own i && x) (same i l)) in
       let fitted = count (λ i. ltb (getD (classesOf spelled) i 0) 4) (λ i. not (eqb (limit i) 0)) (λ i l. rw (listed i l) (conditions i .fitted)) in
       let awake = count (λ i. eqb (getD (classesOf spelled) i 0) 0) (awakeIn c a) awake-is in
       let stale = count (λ i. eqb (getD (classesOf spelled) i 0) 1) (λ i. isStale (limit i) (last i .read) (last i .stamp) (a .time .second)) (λ i l. rw (listed i l) (conditions i .stale)) in
       let invalid = count (λ i. eqb (getD (classesOf spelled) i 0) 2) (λ i. isInvalid (limit i) (last i .read) (last i .stamp) (last i .status) (a .time .second)) (λ i l. rw (listed i l) (conditions i .invalid)) in
       let never = count (λ i. eqb (getD (classesOf spelled) i 0) 3) (λ i. isNever (limit i) (last i .read)) (λ i l. rw (listed i l) (conditions i .never)) in
-      let sum : totalℤ 32 (λ i. cond (hasClass (classesOf spelled) 0 i) (meterAt (stateIn c a .meters) i .value) (pos 0)) ≡ totalℤ 32 (λ i. cond (awakeIn c a i) (last i .value) (pos 0)) =
-      totalℤ-cong 32 _ _ (λ i l. ap₂ (λ (b : Bool) (v : ℤ). cond b v (pos 0)) (awake-is i l) (ap (λ (m : Meter). m .value) (meter-is i l))) in
+      let sum : totalℤ 32 (λ i. cond (own i) (cond (hasClass (classesOf spelled) 0 i) (meterAt (stateIn c a .meters) i .value) (pos 0)) (pos 0)) ≡ totalℤ 32 (λ i. cond (own i && awakeIn c a i) (last i .value) (pos 0)) =
+      totalℤ-cong 32 _ _ (λ i l. rw (awake-is i l, meter-is i l) (one-test (own i) (awakeIn c a i) (last i .value))) in
       rw (fitted, awake, stale, invalid, never, sum)
+
+  fleet-is : fleetOf spelled ≡ fleetIn c a
+  unfolding fleetOf fleetIn awakeSum
+  fleet-is = fleet-counts (λ i. true)
 
   -- Bytes
 
@@ -160,7 +174,7 @@ module _ (setup : Setup) (profile : Profile) (c : Config) (a : Account) where
       (λ f. rw f)
 
   -- each line of the table holds what the account shows, in as many registers as it has
-  contents-are : (group i : ℕ) → i < registersOf group → contentsOf spelled group i ≡ shown c a group i
+  pub contents-are : (group i : ℕ) → i < registersOf group → contentsOf spelled group i ≡ shown c a group i
   unfolding groups lookUp shown mapBytes dailyBytes weeklyBytes resultBytes levelBytes level9Bytes filterBytes fleetBytes clockBytes stateIn
   contents-are group i l =
       by-test (eqb group 82) (λ t. rw t (serial-is i (rw t at l)))

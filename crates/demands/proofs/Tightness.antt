@@ -9,6 +9,7 @@ use Rattle.profile.proofs.Unique as profile
 use Rattle.readout.proofs.Unique as readout
 use Rattle.recorder.proofs.Unique as recorder
 use Rattle.registers.proofs.Unique as registers
+use Rattle.makers.proofs.Unique as makers
 use Rattle.lines.proofs.Unique as lines
 use Rattle.answers.proofs.Unique as answers
 use Rattle.host.proofs.Unique as host
@@ -77,6 +78,8 @@ tight =
       recorder-age-answer = (recorder.age-answer-once, λ κs args. tt);
       registers-read-register = (registers.read-register-once, (registers.read-register-exit, λ κs args. tt));
       registers-fleet-of = (registers.fleet-of-once, λ κs args. tt);
+      makers-give-list = (makers.give-list-once, λ κs args. tt);
+      makers-read-own = (makers.read-own-once, (makers.read-own-exit, λ κs args. tt));
       lines-line-of = (lines.line-of, λ κs args. tt);
       lines-text-after = (lines.text-after, λ κs args. tt);
       lines-hex-bytes = (lines.hex-bytes, λ κs args. tt);
@@ -90,6 +93,8 @@ tight =
       answers-readout-line = (answers.readout-line, λ κs args. tt);
       answers-block-line = (answers.block-line, λ κs args. tt);
       answers-register-line = (answers.register-line, λ κs args. tt);
+      answers-list-line = (answers.list-line, λ κs args. tt);
+      answers-maker-line = (answers.maker-line, λ κs args. tt);
       answers-record-line = (answers.record-line, λ κs args. tt);
       answers-image-part = (answers.image-part, λ κs args. tt);
       answers-date-line = (answers.date-line, λ κs args. tt);

@@ -12,6 +12,7 @@ use Rattle.laws.specs.If.{if_then_else_}
 use Rattle.laws.specs.Answers.{Answer, given, refused, Reply, RunReply}
 use Rattle.laws.specs.Bytes.{le}
 use Rattle.laws.specs.Each.{Each}
+use Rattle.laws.specs.Masks.{bitAt}
 use Rattle.calendar.specs.Moments.{momentOf}
 use Rattle.calendar.specs.declared.Moment.{Moment}
 use Rattle.tariff.specs.Rules.{forceMapAt}
@@ -25,6 +26,7 @@ use Rattle.counting.specs.Bills.{registerAt, billAt, sumsOf, dueOf}
 use Rattle.sampling.specs.Samples.{activeLines}
 use Rattle.recorder.specs.Meters.{ageOf}
 use Rattle.recorder.specs.Profile.{WithBuffer}
+use Rattle.recorder.specs.Lists.{listOf}
 use Rattle.recorder.specs.Calls.{startReply, readingReply, sampleLent, samplesLent, setLent}
 use Rattle.recorder.specs.Readout.{readoutReply, blockReadoutReply}
 use Rattle.readout.specs.DataSets.{AllOf, DataSet, lineOf, IsDataSet}
@@ -34,9 +36,12 @@ use Rattle.readout.specs.Answers.{lineNumber, blockAnswer}
 use Rattle.readout.specs.Laws.{Sent}
 use Rattle.profile.specs.Reading.{heldIn, recordReply}
 use Rattle.profile.specs.declared.Profile.{Profile}
+use Rattle.recorder.specs.declared.MakerList.{MakerList}
 use Rattle.recorder.specs.declared.Recorder.{Recorder}
 use Rattle.recorder.specs.declared.Setup.{Setup}
 use Rattle.registers.specs.Registers.{Group, groups, groupOf, registersOf, fitted, registerReply}
+use Rattle.makers.specs.Lists.{listReply}
+use Rattle.makers.specs.Requests.{makerReply}
 use Rattle.demands.specs.Starts.{LegalLength, AsAtStart}
 
 -- a refusal of document 01's table: its number, and when it is due, with which offset
@@ -100,14 +105,35 @@ abbrev pub bytesIn : Answer Group → ℕ
 bytesIn (given g) = g .bytes
 bytesIn (refused n offset) = 0
 
--- "11 NO GROUP, 12 NO REGISTER: not in the table above"; "8 NOT FITTED: meter, slot, bill register or input not in use"; "13 NO ROOM: the buffer is shorter than the register"
-abbrev pub registerRefusals : Recorder → ℕ → ℕ → List ℕ → List Refusal
-registerRefusals r group register buffer =
+-- "11 NO GROUP, 12 NO REGISTER: not in the table above"; "8 NOT FITTED: meter, slot, bill register or input not in use"; "13 NO ROOM: the buffer is shorter than the register". When 12 is due is the
+-- operator's or a maker's
+abbrev pub requestRefusals : Type 0 → Recorder → ℕ → ℕ → List ℕ → List Refusal
+requestRefusals no-register r group register buffer =
     at 11 0 (Each (λ g. group ≡ g .number → ⊥) groups)
-    ∷ at 12 0 (registersOf group ≤ register)
+    ∷ at 12 0 no-register
     ∷ at 8 0 (fitted (r .config) group register ≡ false)
     ∷ at 13 0 (length buffer < bytesIn (groupOf group))
     ∷ []
+
+-- those of the operator
+abbrev pub registerRefusals : Recorder → ℕ → ℕ → List ℕ → List Refusal
+registerRefusals r group register buffer = requestRefusals (registersOf group ≤ register) r group register buffer
+
+-- CR 6: the request is for a meter, a slot, a bill register or an input that a maker's list does not name
+abbrev pub OffList : MakerList → ℕ → ℕ → Type 0
+OffList list group register =
+    ((group ≡ 82) × (bitAt (list .meters) register ≡ false))
+    ⊎ (((group ≡ 201) × (bitAt (list .slots) register ≡ false))
+    ⊎ (((group ≡ 202) × (bitAt (list .bills) register ≡ false)) ⊎ ((group ≡ 203) × (bitAt (list .inputs) register ≡ false))))
+
+-- "20 NO MAKER, for a maker above 2"
+abbrev pub noMaker : ℕ → Refusal
+noMaker maker = at 20 0 (2 < maker)
+
+-- "before 11; 12 now also for what isn't on the list"
+abbrev pub makerRefusals : Recorder → ℕ → ℕ → ℕ → List ℕ → List Refusal
+makerRefusals r maker group register buffer =
+    noMaker maker ∷ requestRefusals ((registersOf group ≤ register) ⊎ OffList (listOf (r .setup .lists) maker) group register) r group register buffer
 
 -- "writing an image gives 4, with the offset the entry would have, then 13"
 abbrev pub writeRefusals : Config → List ℕ → List Refusal
@@ -162,7 +188,7 @@ RunEnds r run buffer =
     ((AsAtStart (r .profile) (length buffer) → ⊥) × (reply .taken ≡ 0) × (reply .number ≡ 14)) ⊎ (AsAtStart (r .profile) (length buffer) × (all ⊎ some))
 
 -- each call, on every recorder, ends with its result or with exactly the number that the rules name: "Order: start 1, 2, 3, 4, 9; sample 5, 6; reading 7, 8, 10; register 11, 12, 8, 13. Clock sets can give only 9",
--- and of CR 1 14 "before anything else", 8 "next"; a record 14, 15, 13; of CR 4 16, 17, 18, 19, "then those of a reading"
+-- and of CR 1 14 "before anything else", 8 "next"; a record 14, 15, 13; of CR 4 16, 17, 18, 19, "then those of a reading"; of CR 6 20 "before 11"
 pub record NumbersExact : Type 0 where
   pub images : (b : List ℕ) → Ordered (imageRefusals b) (imageAnswer b)
   pub starts : (setup : Setup) (lent : ℕ) (b : List ℕ) (time : ℕ)
@@ -182,6 +208,9 @@ pub record NumbersExact : Type 0 where
       → Ordered (badBlock block ∷ lineRefusals line decimals ++ readingRefusals r meter status seq) (blockReadoutReply r meter status seq decimals block line .answer)
   pub registers : (r : Recorder) (group register : ℕ) (buffer : List ℕ)
       → Ordered (registerRefusals r group register buffer) (registerReply r group register buffer .answer)
+  pub makers : (r : Recorder) (maker group register : ℕ) (buffer : List ℕ)
+      → Ordered (makerRefusals r maker group register buffer) (makerReply r maker group register buffer .answer)
+  pub lists : (setup : Setup) (maker : ℕ) (list : MakerList) → Ordered (noMaker maker ∷ []) (numbered (listReply setup maker list .number))
   pub records : (p : Profile) (index : ℕ) (buffer result : List ℕ)
       → Ordered (recordRefusals p index buffer result) (recordReply p index buffer result .answer)
   pub ages : (limit : ℕ) (read : Bool) (stamp status clock : ℕ) → Ordered (ageRefusals limit status) (ageOf limit read stamp status clock)
@@ -210,6 +239,9 @@ pub record RefusedChangesNothing : Type 0 where
       → blockReadoutReply r meter status seq decimals block line .answer ≡ refused n offset → blockReadoutReply r meter status seq decimals block line .after ≡ r
   pub registers : (r : Recorder) (group register : ℕ) (buffer : List ℕ) (n offset : ℕ)
       → registerReply r group register buffer .answer ≡ refused n offset → registerReply r group register buffer .buffer ≡ buffer
+  pub makers : (r : Recorder) (maker group register : ℕ) (buffer : List ℕ) (n offset : ℕ)
+      → makerReply r maker group register buffer .answer ≡ refused n offset → makerReply r maker group register buffer .buffer ≡ buffer
+  pub lists : (setup : Setup) (maker : ℕ) (list : MakerList) → (listReply setup maker list .number ≡ 0 → ⊥) → listReply setup maker list .after ≡ setup
   pub writes : (c : Config) (buffer : List ℕ) (n offset : ℕ) → writeAnswer c (length buffer) ≡ refused n offset → afterWrite c buffer ≡ buffer
 
 -- demand 1

@@ -11,10 +11,12 @@ pub mod Profile
 pub mod ClockBack
 pub mod Repeats
 pub mod Readout
+pub mod Makers
 pub mod Table
 pub mod Example
 pub mod ProfileCases
 pub mod ClockBackCases
 pub mod RepeatsCases
 pub mod ReadoutCases
+pub mod MakersCases
 pub mod Tightness

@@ -5,6 +5,7 @@ use Prim.Native.Nat.{ℕ, _*_, _/_, _<_}
 use lib.ListN.{length, getD, drop, replicate}
 use Rattle.laws.specs.Answers.{given, refused}
 use Rattle.profile.specs.Reading.{recordReply}
+use Rattle.recorder.specs.Lists.{emptyList}
 use Rattle.recorder.specs.History.{sample, set}
 use Rattle.recorder.specs.declared.Setup.{Setup}
 use Rattle.demands.specs.Example.{twoMakers, start}
@@ -12,7 +13,7 @@ use Rattle.demands.specs.Profile.{Made, call, run, sample-with, set-with
 
 -- slots 0, 1 and 2 are input 2, sum 1 and function 0; 5, 15 and 3 are empty; 0 and 2 are chosen twice
 abbrev pub chosen : Setup
-chosen = record { slots = 0 ∷ 2 ∷ 5 ∷ 1 ∷ 0 ∷ 15 ∷ 3 ∷ 2 ∷ [] }
+chosen = record { slots = 0 ∷ 2 ∷ 5 ∷ 1 ∷ 0 ∷ 15 ∷ 3 ∷ 2 ∷ []; lists = replicate 3 emptyList }
 
 -- an impulse of inputs 0 and 2 together: input 2 has 5/2 units for each, so 2, 3, 2 and 3 for the four below; input 0 has 3/10, so 1 with the fourth. The fourth period has no impulse: it is closed by a
 -- set to the present time. In between a sample and a clock set are lent buffers of other lengths

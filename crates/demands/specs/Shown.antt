@@ -1,5 +1,5 @@
 -- What the registers show after a history: the age classes spelled out, and the bytes of the nine groups of document 01's table in the account's words.
-use mathlib.Core.Bool.{Bool, not, _&&_, _||_, cond}
+use mathlib.Core.Bool.{Bool, true, not, _&&_, _||_, cond}
 use mathlib.Core.List.{List, _++_}
 use Prim.Native.Nat.{ℕ, _+_, _*_, _/_, _%_}
 use lib.Dec.{ltb, eqb}
@@ -50,20 +50,24 @@ awakeIn c a i =
     let m = lastReading (a .journal) i in
     isAwake (getD (c .limits) i 0) (m .read) (m .stamp) (m .status) (a .time .second)
 
--- "204 fleet: fitted, awake, stale, invalid, never .. signed sum of awake values"
-unfoldable pub fleetIn : Config → Account → Fleet
-fleetIn c a =
+-- "204 fleet: fitted, awake, stale, invalid, never .. signed sum of awake values", of the meters that a test names
+abbrev pub fleetAmong : (ℕ → Bool) → Config → Account → Fleet
+fleetAmong own c a =
     let now = a .time .second in
     let limit : ℕ → ℕ = λ i. getD (c .limits) i 0 in
     let last : ℕ → Reading = λ i. lastReading (a .journal) i in
     record {
-      fitted = countOf 32 (λ i. not (eqb (limit i) 0));
-      awake = countOf 32 (awakeIn c a);
-      stale = countOf 32 (λ i. isStale (limit i) (last i .read) (last i .stamp) now);
-      invalid = countOf 32 (λ i. isInvalid (limit i) (last i .read) (last i .stamp) (last i .status) now);
-      never = countOf 32 (λ i. isNever (limit i) (last i .read));
-      sum = totalℤ 32 (λ i. cond (awakeIn c a i) (last i .value) (pos 0));
+      fitted = countOf 32 (λ i. own i && not (eqb (limit i) 0));
+      awake = countOf 32 (λ i. own i && awakeIn c a i);
+      stale = countOf 32 (λ i. own i && isStale (limit i) (last i .read) (last i .stamp) now);
+      invalid = countOf 32 (λ i. own i && isInvalid (limit i) (last i .read) (last i .stamp) (last i .status) now);
+      never = countOf 32 (λ i. own i && isNever (limit i) (last i .read));
+      sum = totalℤ 32 (λ i. cond (own i && awakeIn c a i) (last i .value) (pos 0));
     }
+
+-- of all meters
+unfoldable pub fleetIn : Config → Account → Fleet
+fleetIn c a = fleetAmong (λ i. true) c a
 
 -- "82 serial: STAMP 4, value 4, STATUS 1 (IV set unless awake), SEQ 1; never: zeros but STATUS 1"
 abbrev pub serialShown : Reading → Bool → List ℕ

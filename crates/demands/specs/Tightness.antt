@@ -65,6 +65,8 @@ use Rattle.recorder.proofs.age_class.Reads as recorder-age-class
 use Rattle.recorder.proofs.age_answer.Reads as recorder-age-answer
 use Rattle.registers.proofs.read_register.Reads as registers-read-register
 use Rattle.registers.proofs.fleet_of.Reads as registers-fleet-of
+use Rattle.makers.proofs.give_list.Reads as makers-give-list
+use Rattle.makers.proofs.read_own.Reads as makers-read-own
 use Rattle.lines.proofs.line_of.Reads as lines-line-of
 use Rattle.lines.proofs.text_after.Reads as lines-text-after
 use Rattle.lines.proofs.hex_bytes.Reads as lines-hex-bytes
@@ -78,6 +80,8 @@ use Rattle.answers.proofs.dataset_line.Reads as answers-dataset-line
 use Rattle.answers.proofs.readout_line.Reads as answers-readout-line
 use Rattle.answers.proofs.block_line.Reads as answers-block-line
 use Rattle.answers.proofs.register_line.Reads as answers-register-line
+use Rattle.answers.proofs.list_line.Reads as answers-list-line
+use Rattle.answers.proofs.maker_line.Reads as answers-maker-line
 use Rattle.answers.proofs.record_line.Reads as answers-record-line
 use Rattle.answers.proofs.image_part.Reads as answers-image-part
 use Rattle.answers.proofs.date_line.Reads as answers-date-line
@@ -182,6 +186,9 @@ pub record Tight : Type 1 where
   -- crate registers
   pub registers-read-register : AloneAndLent (λ κs e. now (e .1 .1 .1 .0)) registers-read-register.Post registers-read-register.Asked
   pub registers-fleet-of : Alone registers-fleet-of.Post registers-fleet-of.Asked
+  -- crate makers
+  pub makers-give-list : Alone makers-give-list.Post makers-give-list.Asked
+  pub makers-read-own : AloneAndLent (λ κs e. now (e .1 .1 .1 .1 .0)) makers-read-own.Post makers-read-own.Asked
   -- crate lines
   pub lines-line-of : Alone lines-line-of.Post lines-line-of.Asked
   pub lines-text-after : Handed (λ κs r. partOf r) lines-text-after.Post lines-text-after.Asked
@@ -197,6 +204,8 @@ pub record Tight : Type 1 where
   pub answers-readout-line : Alone answers-readout-line.Post answers-readout-line.Asked
   pub answers-block-line : Alone answers-block-line.Post answers-block-line.Asked
   pub answers-register-line : Alone answers-register-line.Post answers-register-line.Asked
+  pub answers-list-line : Alone answers-list-line.Post answers-list-line.Asked
+  pub answers-maker-line : Alone answers-maker-line.Post answers-maker-line.Asked
   pub answers-record-line : Alone answers-record-line.Post answers-record-line.Asked
   pub answers-image-part : Alone answers-image-part.Post answers-image-part.Asked
   pub answers-date-line : Alone answers-date-line.Post answers-date-line.Asked

@@ -3,7 +3,10 @@ use crate::output::put_text;
 use answers::Text;
 use image::IMAGE_LENGTH;
 use lines::Line;
+use lines::Masks;
 use lines::Slots;
+use recorder::EMPTY_LIST;
+use recorder::MakerList;
 use recorder::Recorder;
 use recorder::SampleRun;
 use recorder::Setup;
@@ -13,7 +16,7 @@ ghost use Prim.Native.Nat.{_<_, _≤_};
 // How many bytes the store for records has: one more than may be lent.
 pub(crate) const STORE_LENGTH: usize = 65537;
 
-// The recorder, the slots that the next start chooses, how many bytes of the store are lent, and how much of the output buffer is filled.
+// The recorder, what the next start is given (the chosen slots, the makers' lists), how many bytes of the store are lent, and how much of the output buffer is filled.
 pub(crate) struct Desk {
     pub recorder: Recorder,
     pub setup: Setup,
@@ -33,6 +36,7 @@ pub(crate) fn first_desk() -> Desk {
     let none = [0u8; 1];
     let setup = Setup {
         slots: [0, 1, 2, 3, 4, 5, 6, 7],
+        lists: [EMPTY_LIST; 3],
     };
     let start = Recorder::start(&none, 0, setup, &none);
     let recorder = start.recorder;
@@ -62,19 +66,35 @@ fn told(desk: Desk, out: &mut [u8], text: Text) -> Desk {
 // What is lent from now on, and chosen by the next start. No more than the store has is lent, which is too long already.
 fn profile(desk: Desk, out: &mut [u8], length: u32, slots: Slots) -> Desk {
     let mut next = told(desk, out, answers::ok());
-    let setup = Setup {
-        slots: [
-            slots.s0,
-            slots.s1,
-            slots.s2,
-            slots.s3,
-            slots.s4,
-            slots.s5,
-            slots.s6,
-            slots.s7,
-        ],
-    };
+    let mut setup = desk.setup;
+    setup.slots = [
+        slots.s0,
+        slots.s1,
+        slots.s2,
+        slots.s3,
+        slots.s4,
+        slots.s5,
+        slots.s6,
+        slots.s7,
+    ];
     next.lent = length as usize;
+    next.setup = setup;
+    next
+}
+
+// A maker's list, for the next start.
+fn list(desk: Desk, out: &mut [u8], maker: u8, masks: Masks) -> Desk {
+    let before = desk.setup;
+    let list = MakerList {
+        meters: masks.meters,
+        inputs: masks.inputs,
+        slots: masks.slots,
+        bills: masks.bills,
+    };
+    let listing = makers::give_list(before, maker, list);
+    let answer = listing.answer;
+    let setup = listing.setup;
+    let mut next = told(desk, out, answers::list_line(answer));
     next.setup = setup;
     next
 }
@@ -248,6 +268,21 @@ fn register(desk: Desk, out: &mut [u8], group: u32, number: u32, room: u32) -> D
     told(desk, out, answers::register_line(answer, bytes))
 }
 
+fn maker_register(
+    desk: Desk,
+    out: &mut [u8],
+    maker: u8,
+    group: u32,
+    number: u32,
+    room: u32,
+) -> Desk {
+    let recorder = desk.recorder;
+    let n = room_of(room, 13);
+    let mut bytes = [0u8; 13];
+    let answer = makers::read_own(recorder, maker, group, number, &mut bytes[..n]);
+    told(desk, out, answers::maker_line(answer, bytes))
+}
+
 fn read_record(desk: Desk, buffer: &[u8], out: &mut [u8], index: u32, room: u32) -> Desk {
     let recorder = desk.recorder;
     let n = room_of(room, 69);
@@ -313,6 +348,8 @@ pub(crate) fn answer(
             seq,
             d,
         ),
+        Line::List(maker, masks) => list(desk, out, maker, masks),
+        Line::Maker(maker, group, n, room) => maker_register(desk, out, maker, group, n, room),
         Line::Wrong(mistake) => told(desk, out, answers::error_line(number, mistake)),
     }
 }

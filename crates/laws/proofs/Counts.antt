@@ -1,14 +1,19 @@
--- The ones of a mask are as many as the places at which its test holds.
-use mathlib.Core.Path.{_≡_, refl}
+-- Counts of tests that hold; the ones of a mask are as many as the places at which its test holds.
+use mathlib.Core.Path.{_≡_, refl, ap}
 use mathlib.Core.Bool.{Bool, true, false, _||_}
-use Prim.Native.Nat.{ℕ, zero, suc, _≤_}
+use Prim.Native.Nat.{ℕ, zero, suc, _<_, _≤_}
 use native.Mathlib.Nat.{add-comm}
 use lib.Bits.{bitOr, or-block, or-zero-l, or-zero-r, or-self}
 use lib.Count.{ones, ones-cat, ones-le}
 use Rattle.laws.specs.Masks.{bit, maskOf}
 use Rattle.laws.proofs.Masks.{mask-below}
+use Rattle.laws.proofs.Total.{total-cong}
 use Rattle.laws.specs.Total.{total}
 use Rattle.laws.specs.Counts.{countOf}
+
+-- tests that agree hold as often
+pub count-cong : (n : ℕ) (p q : ℕ → Bool) → ((i : ℕ) → i < n → p i ≡ q i) → countOf n p ≡ countOf n q
+count-cong n p q same = total-cong n _ _ (λ i l. ap bit (same i l))
 
 -- the ones of a bit
 bit-ones : (b : Bool) → ones (bit b) ≡ bit b

@@ -2,7 +2,7 @@
 use mathlib.Core.Path.{_≡_, refl}
 use mathlib.Core.Bool.{Bool, true, false, cond}
 use Prim.Native.Nat.{ℕ, zero, suc, _+_, _-_, _*_, _^_, _<_, _≤_}
-use native.Mathlib.Nat.{add-comm, le-antisymm}
+use native.Mathlib.Nat.{add-comm, le-antisymm, le-refl}
 use native.Mathlib.Numerals.{add-one}
 use native.Mathlib.Omega.{arith}
 use lib.Dec.{ltb}
@@ -25,6 +25,12 @@ totalℤ-turn i f e h = rw (h, e, add-one)
 -- after the last turn
 pub totalℤ-done : (n i : ℕ) (f : ℕ → ℤ) (t : ℤ) → t ≡ totalℤ i f → i ≤ n → n ≤ i → t ≡ totalℤ n f
 totalℤ-done n i f t e l g = rw (e, le-antisymm l g)
+
+-- sums of parts that agree
+pub totalℤ-cong : (n : ℕ) (f g : ℕ → ℤ) → ((i : ℕ) → i < n → f i ≡ g i) → totalℤ n f ≡ totalℤ n g
+unfolding totalℤ
+totalℤ-cong zero f g h = refl
+totalℤ-cong (suc n) f g h = rw (h n (le-refl (suc n)), totalℤ-cong n f g (λ i l. h i (omega arith)))
 
 sub-abs : (b : Bool) (m n : ℕ) → ltb m n ≡ b → natAbs (cond b (negsuc (n - suc m)) (pos (m - n))) ≤ m + n
 sub-abs true m n e = omega (arith, ltb-true m n e)

@@ -13,7 +13,8 @@ use Rattle.lines.specs.Hex.{isHex}
 use Rattle.lines.specs.declared.numbers.Number.{Number}
 use Rattle.lines.specs.declared.numbers.Signed.{Signed}
 use Rattle.lines.specs.declared.Line.{Line}
-use Rattle.lines.specs.declared.Line.the-variants.{Nothing, Start, Sample, Set, Reading, Reset, Register, Image, Date, Fleet, Profile, Record, Dataset, Readout, Block, Blockreadout, Wrong}
+use Rattle.lines.specs.declared.Line.the-variants.{Nothing, Start, Sample, Set, Reading, Reset, Register, Image, Date, Fleet, Profile, Record, Dataset, Readout, Block, Blockreadout, Maker, Wrong}
+use Rattle.lines.specs.declared.Line.the-variants as line
 use Rattle.lines.specs.declared.Mistake.the-variants as mistake
 use Rattle.lines.specs.declared.Command.{Command}
 use Rattle.lines.specs.declared.Command.the-variants as command
@@ -23,6 +24,8 @@ use Rattle.lines.specs.declared.First.{First}
 use Rattle.lines.specs.declared.First.the-variants as first
 use Rattle.lines.specs.declared.Timed.{Timed}
 use Rattle.lines.specs.declared.Timed.the-variants as timed
+use Rattle.lines.specs.declared.Asker.{Asker}
+use Rattle.lines.specs.declared.Asker.the-variants as asker
 
 -- word k as a number of 32 bits
 abbrev pub number32 : ℕ → List ℕ → Number
@@ -71,13 +74,36 @@ readingAsked m v s q =
     else if not (q .ok) then bad parameter.Seq
     else Reading (m .value) (v .value) (s .value) (q .value)
 
--- a register request: group, register and room
-abbrev pub registerAsked : Number → Number → Number → Line
-registerAsked g r room =
+-- what is asked with the numbers of a register request
+abbrev pub withRegister : Asker → ℕ → ℕ → ℕ → Line
+withRegister asker.Operator = Register
+withRegister (asker.Maker m) = Maker m
+
+-- a register request: group, register and room; the first number that is wrong is told
+abbrev pub registerAsked : (ℕ → ℕ → ℕ → Line) → Number → Number → Number → Line
+registerAsked ask g r room =
     if not (g .ok) then bad parameter.Group
     else if not (r .ok) then bad parameter.Number
     else if not (room .ok) then bad parameter.Room
-    else Register (g .value) (r .value) (room .value)
+    else ask (g .value) (r .value) (room .value)
+
+-- the same of the words from k on; ROOM is 13, the longest register, where it is not written
+abbrev pub registerOf : (ℕ → ℕ → ℕ → Line) → ℕ → List ℕ → Line
+registerOf ask k text = registerAsked ask (number32 k text) (number32 (k + 1) text) (numberOr 13 (k + 2) text)
+
+-- a maker's register request: the maker, and then as the operator's
+abbrev pub makerAsked : Number → List ℕ → Line
+makerAsked m text = if not (m .ok) then bad parameter.Maker else registerOf (Maker (m .value)) 2 text
+
+-- a maker's list: the maker, and the masks of meters, inputs, slots and bills
+abbrev pub listAsked : Number → Number → Number → Number → Number → Line
+listAsked m meters inputs slots bills =
+    if not (m .ok) then bad parameter.Maker
+    else if not (meters .ok) then bad parameter.Meters
+    else if not (inputs .ok) then bad parameter.Inputs
+    else if not (slots .ok) then bad parameter.Slots
+    else if not (bills .ok) then bad parameter.Bills
+    else line.List (m .value) (record { meters = meters .value; inputs = inputs .value; slots = slots .value; bills = bills .value })
 
 -- a profile: length and slots; the first number that is wrong is told
 abbrev pub profileAsked : Number → (ℕ → Number) → Line
@@ -135,15 +161,17 @@ hasWords command.Dataset n = leb 3 n
 hasWords command.Readout n = leb 6 n
 hasWords command.Block n = eqb n 2
 hasWords command.Blockreadout n = leb 7 n
+hasWords command.List n = eqb n 6
+hasWords command.Maker n = eqb n 4 || eqb n 5
 
--- what a line of a command asks; COUNT is 1 where it is not written, and ROOM 13, the longest register, or 69, a record
+-- what a line of a command asks; COUNT is 1 where it is not written, and ROOM 69, a record
 unfoldable pub askedOf : Command → List ℕ → Line
 askedOf command.Start text = timeOf Start (number32 1 text)
 askedOf command.Sample text = sampleAsked (number16 1 text) (numberOr 1 2 text)
 askedOf command.Set text = timeOf Set (number32 1 text)
 askedOf command.Reading text = readingAsked (number8 1 text) (signedOf (word 2 text)) (number8 3 text) (number8 4 text)
 askedOf command.Reset text = Reset
-askedOf command.Register text = registerAsked (number32 1 text) (number32 2 text) (numberOr 13 3 text)
+askedOf command.Register text = registerOf Register 1 text
 askedOf command.Image text = Image
 askedOf command.Date text = timeOf Date (number32 1 text)
 askedOf command.Fleet text = Fleet
@@ -153,6 +181,8 @@ askedOf command.Dataset text = datasetAsked (number8 1 text)
 askedOf command.Readout text = readoutOf false text
 askedOf command.Block text = withHex (word 1 text) Block
 askedOf command.Blockreadout text = readoutOf true text
+askedOf command.List text = listAsked (number8 1 text) (number32 2 text) (number16 3 text) (number16 4 text) (number16 5 text)
+askedOf command.Maker text = makerAsked (number8 1 text) text
 
 -- the commands by their words
 unfoldable pub commands : List (List ℕ × Command)
@@ -172,6 +202,8 @@ commands =
     ∷ (letters "readout", command.Readout)
     ∷ (letters "block", command.Block)
     ∷ (letters "blockreadout", command.Blockreadout)
+    ∷ (letters "list", command.List)
+    ∷ (letters "maker", command.Maker)
     ∷ []
 
 -- the command that a table has for a word

@@ -11,7 +11,7 @@ ghost use Rattle.laws.specs.Parts.{partOf};
 ghost use Rattle.lines.specs.Words.{word, textAfter};
 ghost use Rattle.lines.specs.Numbers.{wholeOf, signedOf};
 ghost use Rattle.lines.specs.Hex.{hexBytes};
-ghost use Rattle.lines.specs.Lines.{number32, number8, numberOr, withTime, timeOf, withHex, readoutOf, hasWords, askedOf, commandOf, asked, textMeans, lineMeans};
+ghost use Rattle.lines.specs.Lines.{number32, number8, numberOr, withTime, timeOf, withRegister, registerOf, withHex, readoutOf, hasWords, askedOf, commandOf, asked, textMeans, lineMeans};
 ghost use Rattle.lines.specs.Lines.{bad as Lines·bad};
 
 // What a line asks, or what is wrong with it.
@@ -42,6 +42,10 @@ pub enum Line {
     Block,
     // As a readout; HEX is word 5, and TEXT stands behind 6.
     Blockreadout(u8, u8, u8, u8),
+    // Maker, masks.
+    List(u8, Masks),
+    // Maker, group, register, room.
+    Maker(u8, u32, u32, u32),
     Wrong(Mistake),
 }
 
@@ -55,6 +59,14 @@ pub struct Slots {
     pub s5: u8,
     pub s6: u8,
     pub s7: u8,
+}
+
+// What a maker's list names, a bit for each.
+pub struct Masks {
+    pub meters: u32,
+    pub inputs: u16,
+    pub slots: u16,
+    pub bills: u16,
 }
 
 // The bytes of HEX, with zeros behind them.
@@ -91,6 +103,8 @@ pub enum Command {
     Readout,
     Block,
     Blockreadout,
+    List,
+    Maker,
 }
 
 // The numbers that lines have, and HEX.
@@ -109,12 +123,17 @@ pub enum Parameter {
     Index,
     Decimals,
     Hex,
+    Maker,
+    Meters,
+    Inputs,
+    Slots,
+    Bills,
     // S0 to S7, by its number.
     Slot(u8),
 }
 
 // The commands, in the order of their words in `command_of`.
-const COMMANDS: [Command; 15] = [
+const COMMANDS: [Command; 17] = [
     Command::Sample,
     Command::Start,
     Command::Set,
@@ -130,6 +149,8 @@ const COMMANDS: [Command; 15] = [
     Command::Readout,
     Command::Block,
     Command::Blockreadout,
+    Command::List,
+    Command::Maker,
 ];
 
 // What the first word of a line says.
@@ -145,11 +166,17 @@ enum Timed {
     Date,
 }
 
+// Who asks for a register.
+enum Asker {
+    Operator,
+    Maker(u8),
+}
+
 fn command_of(first: &[u8]) -> First
     ensures { λ r. ⌜ r ≡ commandOf (now (first .entry)) ⌝ }
 {
     let names =
-        b"sample start set reading reset register image date fleet profile record dataset readout block blockreadout";
+        b"sample start set reading reset register image date fleet profile record dataset readout block blockreadout list maker";
     for k in 0..COMMANDS.len() {
         if words::is(first, words::word(names, k)) {
             let command = COMMANDS[k];
@@ -237,22 +264,76 @@ fn sample_line(text: &[u8]) -> Line
     Line::Sample(bits.value as u16, n.value)
 }
 
-fn register_line(text: &[u8]) -> Line
-    ensures { λ r. ⌜ r ≡ askedOf Command.Register (now (text .entry)) ⌝ }
+// What is asked with the numbers of a register request.
+fn with_register(who: Asker, group: u32, number: u32, room: u32) -> Line
+    ensures { λ r. ⌜ r ≡ withRegister who group number room ⌝ }
 {
-    let group = number_at(text, 1, 4294967295);
+    match who {
+        Asker::Operator => Line::Register(group, number, room),
+        Asker::Maker(maker) => Line::Maker(maker, group, number, room),
+    }
+}
+
+// Group, register and room stand in the words from k on.
+fn register_line(who: Asker, text: &[u8], k: usize) -> Line
+    requires { ⌜ k ≤ 2 ⌝ }
+    ensures { λ r. ⌜ r ≡ registerOf (withRegister who) k (now (text .entry)) ⌝ }
+{
+    let group = number_at(text, k, 4294967295);
     if !group.ok {
         return bad(Parameter::Group);
     }
-    let number = number_at(text, 2, 4294967295);
+    let number = number_at(text, k + 1, 4294967295);
     if !number.ok {
         return bad(Parameter::Number);
     }
-    let room = number_or(text, 3, 13);
+    let room = number_or(text, k + 2, 13);
     if !room.ok {
         return bad(Parameter::Room);
     }
-    Line::Register(group.value, number.value, room.value)
+    with_register(who, group.value, number.value, room.value)
+}
+
+fn maker_line(text: &[u8]) -> Line
+    ensures { λ r. ⌜ r ≡ askedOf Command.Maker (now (text .entry)) ⌝ }
+{
+    let maker = number_at(text, 1, 255);
+    if !maker.ok {
+        return bad(Parameter::Maker);
+    }
+    register_line(Asker::Maker(maker.value as u8), text, 2)
+}
+
+fn list_line(text: &[u8]) -> Line
+    ensures { λ r. ⌜ r ≡ askedOf Command.List (now (text .entry)) ⌝ }
+{
+    let maker = number_at(text, 1, 255);
+    if !maker.ok {
+        return bad(Parameter::Maker);
+    }
+    let meters = number_at(text, 2, 4294967295);
+    if !meters.ok {
+        return bad(Parameter::Meters);
+    }
+    let inputs = number_at(text, 3, 65535);
+    if !inputs.ok {
+        return bad(Parameter::Inputs);
+    }
+    let slots = number_at(text, 4, 65535);
+    if !slots.ok {
+        return bad(Parameter::Slots);
+    }
+    let bills = number_at(text, 5, 65535);
+    if !bills.ok {
+        return bad(Parameter::Bills);
+    }
+    let masks = Masks {
+        meters: meters.value,
+        inputs: inputs.value as u16,
+        slots: slots.value as u16,
+        bills: bills.value as u16,
+    };
+    Line::List(maker.value as u8, masks)
 }
 
 fn reading_line(text: &[u8]) -> Line
@@ -385,6 +466,8 @@ fn has_words(command: Command, count: usize) -> bool
         Command::Readout => 6 <= count,
         Command::Block => count == 2,
         Command::Blockreadout => 7 <= count,
+        Command::List => count == 6,
+        Command::Maker => (count == 4) | (count == 5),
     }
 }
 
@@ -398,7 +481,7 @@ fn ask(command: Command, text: &[u8]) -> Line
         Command::Set => time_line(Timed::Set, text),
         Command::Reading => reading_line(text),
         Command::Reset => Line::Reset,
-        Command::Register => register_line(text),
+        Command::Register => register_line(Asker::Operator, text, 1),
         Command::Image => Line::Image,
         Command::Date => time_line(Timed::Date, text),
         Command::Fleet => Line::Fleet,
@@ -408,6 +491,8 @@ fn ask(command: Command, text: &[u8]) -> Line
         Command::Readout => readout_line(false, text),
         Command::Block => with_hex(text, 1, Line::Block),
         Command::Blockreadout => readout_line(true, text),
+        Command::List => list_line(text),
+        Command::Maker => maker_line(text),
     }
 }
 

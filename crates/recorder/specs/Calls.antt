@@ -16,6 +16,7 @@ use Rattle.profile.specs.Records.{slotsFit}
 use Rattle.profile.specs.Room.{legalLength, freshProfile}
 use Rattle.sampling.specs.Samples.{sampleNumber, sampleOf, samplesOf}
 use Rattle.sampling.specs.Closed.{closedBy, closedIn}
+use Rattle.recorder.specs.Lists.{emptyList}
 use Rattle.recorder.specs.Meters.{Stamping, renewed, kept, ReadingReply, readingOf}
 use Rattle.recorder.specs.Clock.{setOf, resetOf}
 use Rattle.recorder.specs.Profile.{closedBySet, moved, WithBuffer, lentTo}
@@ -53,10 +54,15 @@ freshState time =
       closed = record { state = 0; stamp = 0; values = replicate 16 (pos 0) };
     }
 
--- the blank recorder: all numbers 0, nothing fitted; its profile has length 0, so each call that lends it a buffer is refused with 14
+-- the blank recorder: all numbers 0, nothing fitted, nothing on a list; its profile has length 0, so each call that lends it a buffer is refused with 14
 unfoldable pub blankRecorder : Recorder
 blankRecorder =
-    record { config = blankConfig; setup = record { slots = replicate 8 0 }; state = freshState 0; profile = freshProfile 0 }
+    record {
+      config = blankConfig;
+      setup = record { slots = replicate 8 0; lists = replicate 3 emptyList };
+      state = freshState 0;
+      profile = freshProfile 0;
+    }
 
 -- the reply to a start: given, or refused with number and offset, and the recorder beside it
 pub record StartAnswered : Type 0 where

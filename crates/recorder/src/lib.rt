@@ -44,9 +44,26 @@ ghost use Rattle.recorder.specs.Calls.{freshState, blankRecorder, startS
 ghost use Rattle.recorder.specs.Readout.{notBooked, readoutSaid, readoutReply, blockReadoutReply};
 ghost use Rattle.image.specs.Answers.{imageAnswer, imageConfig};
 
-// What else a start is given: the eight chosen slots of the load profile.
+// What a maker may read, as masks: bit i names meter, input, slot or bill register i. Overlaps and things that are not fitted are legal.
+pub struct MakerList {
+    pub meters: u32,
+    pub inputs: u16,
+    pub slots: u16,
+    pub bills: u16,
+}
+
+// A list with nothing on it.
+pub const EMPTY_LIST: MakerList = MakerList {
+    meters: 0,
+    inputs: 0,
+    slots: 0,
+    bills: 0,
+};
+
+// What else a start is given: the eight chosen slots of the load profile, and the lists of the three makers.
 pub struct Setup {
     pub slots: [u8; 8],
+    pub lists: [MakerList; 3],
 }
 
 // What is fixed from the start on, what moves, and where the records of the load profile stand in the buffer that is lent to the calls.
@@ -165,7 +182,10 @@ fn blank_recorder() -> Recorder
 {
     let config = image::blank_config();
     let state = fresh_state(0);
-    let setup = Setup { slots: [0; 8] };
+    let setup = Setup {
+        slots: [0; 8],
+        lists: [EMPTY_LIST; 3],
+    };
     Recorder {
         config,
         setup,

@@ -7,6 +7,7 @@ use lib.IntN.{pos}
 use lib.ListN.{getD, replicate}
 use Rattle.image.specs.Image.{blankProgram}
 use Rattle.settings.specs.declared.Config.{Config}
+use Rattle.recorder.specs.Lists.{emptyList}
 use Rattle.recorder.specs.declared.Recorder.{Recorder}
 use Rattle.registers.specs.Fleet.{classAt}
 use Rattle.registers.specs.Registers.{registerReply}
@@ -30,7 +31,7 @@ abbrev heardAt1000 : ℕ → Recorder
 heardAt1000 clock =
     record {
       config = oneMeter;
-      setup = record { slots = replicate 8 0 };
+      setup = record { slots = replicate 8 0; lists = replicate 3 emptyList };
       profile = record { length = 69; next = 0; held = 0 };
       state =
           record {

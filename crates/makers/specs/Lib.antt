@@ -1,0 +1,4 @@
+-- CR 6: the makers' lists, and a maker's register requests.
+pub mod Lists
+pub mod Requests
+pub mod Laws

@@ -1,6 +1,4 @@
 -- `makers::read_own` meets its contract: each return knows the tests before it; a request that is passed on is answered by `read_register`.
-use mathlib.Core.Path.{_≡_, ap, sym, _∙_}
-use mathlib.Core.Bool.{not}
 use borrow.Author.Needs.{needs}
 use borrow.Author.Tests.{lt-ltb, le-ltb, eq-eqb, ne-eqb}
 use Rattle.makers.specs.Requests.{makerReply}

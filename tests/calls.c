@@ -343,9 +343,30 @@ static void maker_calls(void) {
   for (unsigned k = from_to(1, 3); k > 0; k--) maker_call();
 }
 
+/* What stands between per cent and F: each of the 748 forms as often as any other. */
+static const char *some_form(void) {
+  static char text[30];
+  unsigned width = below(17), decimals = below(11);
+  char *end = text;
+  if (percent(50)) *end++ = '0';
+  if (width > 0) end += sprintf(end, "%u", width);
+  if (decimals < 10) end += sprintf(end, ".%u", decimals);
+  strcpy(end, percent(50) ? "u" : "");
+  return text;
+}
+
+/* A field on the display and nothing else: in this form, or most often in the one that shows the number alone. */
+static void show_form(unsigned g, uint32_t n, unsigned field, const char *form) { line("display 32 %02x%02x%02x %%%sF", groups[g], n & 255, field, form); }
+
+static void show_field(unsigned g, uint32_t n, unsigned field) { show_form(g, n, field, percent(70) ? "" : some_form()); }
+
 /* What a few registers of a group show. */
 static void show(unsigned g, unsigned count) {
-  while (count-- > 0) register_of(g, below(registers[g]));
+  while (count-- > 0) {
+    uint32_t n = below(registers[g]);
+    register_of(g, n);
+    if (percent(10)) show_field(g, n, below(fields[g]));
+  }
 }
 
 static void show_tariffs(void) {
@@ -426,6 +447,7 @@ static void edge_call(void) {
   show(LEVEL9, 2);
   if (percent(20)) record_of(held() - 1);
   if (percent(30)) register_of(CLOCK, 0);
+  if (percent(20)) show_field(CLOCK, 0, 1);
 }
 
 /* A period from its first second, or the one after, to its end and further. */
@@ -467,6 +489,7 @@ static void reading_call(void) {
   unsigned meter = some_meter();
   reading_of(meter);
   if (percent(30)) register_of(SERIAL, meter);
+  if (percent(20)) show_field(SERIAL, meter, percent(60) ? 1 : below(4));
 }
 
 /* A reading, or the meter's own readout, in a block or without one. The data set is good. */
@@ -489,6 +512,7 @@ static uint32_t heard_at(unsigned meter) {
 
 static void show_meter(unsigned meter) {
   register_of(SERIAL, meter);
+  if (percent(10)) show_field(SERIAL, meter, below(4));
   if (percent(40)) line("fleet");
   else register_of(FLEET, 0);
   if (percent(30)) maker_call();
@@ -861,6 +885,158 @@ static void readout_call(int with_block) {
   else if (percent(10)) line("fleet");
 }
 
+/* The hall display: format strings, and the arguments that their specifications take. */
+
+/* A field, of a register that may not be fitted. A few name no group, no register of it, or no field. */
+static void add_argument(struct text *arguments) {
+  static const unsigned wrong[] = {0, 1, 81, 83, 88, 92, 200, 205, 207, 255};
+  unsigned g = below(GROUPS), group = groups[g], n = below(registers[g]), field = below(fields[g]);
+  switch (below(40)) {
+  case 0: group = PICK(wrong); break;
+  case 1: n = percent(50) ? registers[g] : from_to(registers[g], 255); break;
+  case 2: field = percent(50) ? fields[g] : from_to(fields[g], 255); break;
+  default: break;
+  }
+  add(arguments, group);
+  add(arguments, n);
+  add(arguments, field);
+}
+
+static void add_field(struct text *t, struct text *arguments) {
+  add(t, '%');
+  add_all(t, some_form());
+  add(t, 'F');
+  add_argument(arguments);
+}
+
+/* What is no specification, unless the text behind it makes it one: letters in a wrong order, too many or missing, and those of section 3.8.2 that the hall has not. */
+static void add_bad_specification(struct text *t) {
+  static const char *const bad[] = {"%", "%%", "%%F", "%d", "%t", "%f", "%R", "%n", "%\\n", "%00F", "%009F", "%017F", "%17F", "%20F", "%99F", "%100F", "%160F", "%.F", "%.uF", "%.12F", "%9.12F", "%..1F",
+    "%.1.1F", "%9D", "%9T", "%0D", "%0T", "%uD", "%uT", "%.1D", "%.1T", "%-9F", "%-F", "%+F", "% F", "% 9F", "%09.1aF", "%sF", "%mF", "%eF", "%uuF", "%u9F", "%u0F", "%u.1F", "%0.1u9F", "%uf", "%9uD", "%9",
+    "%09", "%9.", "%9.3", "%9.3u", "%u", "%0", "%.", "%.3", "%/F", "%:F", "%1/F", "%1:F", "%./F", "%.:F", "%16", "%1"};
+  static const char letters[] = "0123456789.uFDT%-+ \\n";
+  size_t from = t->length;
+  if (percent(60)) { add_all(t, PICK(bad)); return; }
+  add(t, '%');
+  add_all(t, some_form());
+  add(t, 'F');
+  put_in(t, from + from_to(1, (uint32_t)(t->length - from - 1)), (unsigned char)letters[below(sizeof letters - 1)]);
+}
+
+static void add_plain(struct text *t, unsigned n) {
+  for (; n > 0; n--) {
+    unsigned letter = from_to(' ', '~');
+    add(t, letter == '%' || letter == '\\' ? '|' : letter);
+  }
+}
+
+/* Text: words, as much as a line holds or beside it, backslashes that are no break or stand before one, and any bytes. */
+static void add_words(struct text *t) {
+  static const char *const usual[] = {"R1 ", "Time: ", "Date: ", " kWh", "Pottery", " ", "F", "u", "D", "0", "n", "9.3uF", "-", ".", "|"};
+  static const char *const slashes[] = {"\\", "\\\\", "\\\\n", "\\N", "\\t", "\\ n", "\\0", "n\\", "\\\\\\n", "\\\\n\\"};
+  switch (below(8)) {
+  case 0: add_plain(t, from_to(14, 18)); break;
+  case 1: add_all(t, PICK(slashes)); break;
+  case 2:
+    for (unsigned n = from_to(1, 4); n > 0; n--) {
+      unsigned byte = below(256);
+      add(t, byte == '\n' || byte == '%' ? 0 : byte);
+    }
+    break;
+  default: add_all(t, PICK(usual)); break;
+  }
+}
+
+static void add_part(struct text *t, struct text *arguments) {
+  switch (percent(3) ? 10 : below(10)) {
+  case 0: case 1: add_words(t); break;
+  case 2: case 3: add_all(t, "\\n"); break;
+  case 4: add_all(t, "%D"); break;
+  case 5: add_all(t, "%T"); break;
+  case 10: add_bad_specification(t); break;
+  default: add_field(t, arguments); break;
+  }
+}
+
+/* Past the end of a line, or past the second line, and a field there, which takes its arguments; then perhaps something in view again. */
+static void add_dropped(struct text *t, struct text *arguments) {
+  unsigned kind = below(4);
+  switch (kind) {
+  case 0: add_plain(t, from_to(15, 18)); break;
+  case 1: add_all(t, percent(50) ? "%D%T" : "%T%D"); break;
+  case 2: add_field(t, arguments); add_plain(t, 15); break;
+  default: add_all(t, percent(50) ? "\\n\\n" : "%T\\nR1\\n"); break;
+  }
+  add_part(t, arguments);
+  add_field(t, arguments);
+  if (kind < 3) add_all(t, "\\n");
+  add_part(t, arguments);
+  add_field(t, arguments);
+}
+
+/* A specification that is bad, and a field that cannot be read: whichever comes first decides. */
+static void add_both_faults(struct text *t, struct text *arguments) {
+  unsigned first = below(2);
+  if (percent(30)) add_dropped(t, arguments);
+  if (first == 0) add_bad_specification(t);
+  add_part(t, arguments);
+  add_field(t, arguments);
+  arguments->bytes[arguments->length - from_to(1, 3)] = (char)255;
+  add_part(t, arguments);
+  if (first == 1) add_bad_specification(t);
+}
+
+static uint32_t some_room(void) {
+  static const uint32_t rooms[] = {0, 1, 13, 16, 30, 31, 31, 31, 31, 31, 33, 33, 255, 65536, LAST_SECOND};
+  return percent(85) ? 32 : PICK(rooms);
+}
+
+static void add_page(struct text *t, struct text *arguments) {
+  switch (below(10)) {
+  case 0: case 1: case 2: add_field(t, arguments); break;
+  case 3: add_dropped(t, arguments); break;
+  case 4: add_both_faults(t, arguments); break;
+  default: for (unsigned n = percent(5) ? 0 : from_to(1, 6); n > 0; n--) add_part(t, arguments); break;
+  }
+}
+
+/* Arguments may be missing, or spare. */
+static void display_call(void) {
+  struct text t, format = {.length = 0}, arguments = {.length = 0};
+  add_page(&format, &arguments);
+  if (percent(6)) arguments.length -= arguments.length < 3 ? arguments.length : from_to(1, 3);
+  if (percent(8)) for (unsigned n = from_to(1, 4); n > 0; n--) add(&arguments, below(256));
+  begin_text(&t, "display %u ", some_room());
+  add_hex(&t, &arguments);
+  add(&t, ' ');
+  add_bytes(&t, format.bytes, format.length);
+  put_text(&t);
+}
+
+/* A reading of one digit to nine, most often below 0, in several forms: so zeros and blanks stand before it. And the fleet that it counts for. */
+static void few_digits(void) {
+  unsigned meter = below(METERS), most = 10;
+  for (unsigned n = below(9); n > 0; n--) most *= 10;
+  line("reading %u %s%u 0 %u", meter, percent(80) ? "-" : "", below(most), percent(20) ? 31 : below(32));
+  for (unsigned k = from_to(2, 5); k > 0; k--) show_form(SERIAL, meter, 1, some_form());
+  if (percent(20)) show_field(SERIAL, meter, 3);
+  if (percent(40)) show_field(FLEET, 0, 5);
+}
+
+static void display_calls(void) {
+  if (percent(30)) few_digits();
+  else for (unsigned k = from_to(1, 5); k > 0; k--) display_call();
+}
+
+/* What the display has of the last second: its date and time, the clock, and the stamp of a reading that comes then. */
+static void show_end(void) {
+  unsigned meter = below(METERS);
+  if (percent(50)) line("display 32 - %%D\\n%%T");
+  show_field(CLOCK, 0, below(2));
+  reading_of(meter);
+  show_field(SERIAL, meter, 0);
+}
+
 /* The end of the clock. It is surely near: else the greatest COUNT would take minutes. */
 static void end_call(void) {
   surely("set", LAST_SECOND - below(3));
@@ -868,7 +1044,9 @@ static void end_call(void) {
   samples(some_bits(), percent(30) ? LAST_SECOND : 400);
   samples(some_bits(), 1);
   register_of(CLOCK, 0);
-  set(some_time());
+  show_end();
+  set(percent(30) ? 0 : some_time());
+  show_field(CLOCK, 0, 0);
 }
 
 static void set_call(void) {
@@ -907,6 +1085,7 @@ static void begin(uint32_t time) {
     start(time);
     register_of(CLOCK, 0);
     maker_call();
+    display_call();
     for (unsigned k = from_to(1, 4); k > 0; k--) lent_call();
   }
   if (spoiled || percent(80)) lend(good_length(), 0);
@@ -952,7 +1131,13 @@ static void wrong_line(void) {
     "maker", "maker ", "maker 0", "maker 0 82", "maker 0 82 ", "maker 0 82 0 ", "maker 0 82 0 13 ", "maker 0 82 0 13 1", "maker  0 82 0", "maker 0  82 0", "makers 0 206 0", "Maker 0 206 0", "maker 256 206 0",
     "maker -0 206 0", "maker +1 206 0", "maker x 206 0", "maker 0 4294967296 0", "maker 0 -82 0", "maker 0 82 4294967296", "maker 0 82 -0", "maker 0 82 0 4294967296", "maker 0 82 0 -1", "maker 0 82 0 x",
     "maker 256 4294967296 4294967296 4294967296", "maker 0 x x x", "maker 0 82 x x", "maker 18446744073709551616 206 0", "maker 0 206 18446744073709551616", "maker 0 206 0\r", "maker 3 206 0\r\r",
-    "maker 3 x 0", "maker 255 205 0 0\r"};
+    "maker 3 x 0", "maker 255 205 0 0\r",
+    "display", "display ", "display 32", "display 32 ", "display 32 -", "display 32 -\r", "display 32 - ", "display 32 - \r", "display 32 -  ", "display 32 - %D", "display 32 - %D\r", "display 32 - %D\r\r",
+    "display 32 -  %D", "display 32 - %D  ", "display 32  %D", "display  32 - %D", "display 32  - %D", "displays 32 - %D", "Display 32 - %D", "display\t32 - %D", "display - 32 %D", "display x - %D", "display -1 - %D",
+    "display +32 - %D", "display 32.0 - %D", "display 4294967296 - %D", "display 4294967295 - %D", "display 18446744073709551648 - %D", "display 0000000000000000000000000032 - %D", "display 031 - %D",
+    "display 32 5 %F", "display 32 5g %F", "display 32 g5 %F", "display 32 ce000 %F", "display 32 -- %D", "display 32 -ce %D", "display 32 x x", "display x x x", "display 4294967296 x %D", "display 31 x %D",
+    "display 31 - %", "display 31 - %F", "display 32 ce 0000 %F", "display 32 CE0000 %F", "display 32 cE0000Ce0001 %F\\n%F", "display 32 ce0000 %F %D %T", "display 32 - %F", "display 32 ce %F", "display 32 ce00 %F",
+    "display 32 ce000000 %F", "display 32 ce0000 ", "display 32 - \\n\\n%D", "display 32 - \\", "display 32 - %", "display 32 - %\r"};
   const char *text = PICK(lines);
   put_line(text, strlen(text));
 }
@@ -961,7 +1146,8 @@ static void wrong_line(void) {
 static void long_line(void) {
   static const char *const fronts[] = {"date ", "set ", "#", "register 89 ", "reading 0 -", "sample 0 ", "x", "start ", "record ", "record 0 ", "profile ", "dataset 0 ", "dataset 0 (",
     "dataset ", "readout 0 0 0 0 ", "readout ", "block ", "block 02", "blockreadout 0 0 0 0 ", "blockreadout 0 0 0 0 020303 ",
-    "list ", "list 0 ", "list 1 7 0 0 ", "maker ", "maker 0 ", "maker 1 206 ", "maker 2 89 0 "};
+    "list ", "list 0 ", "list 1 7 0 0 ", "maker ", "maker 0 ", "maker 1 206 ", "maker 2 89 0 ",
+    "display ", "display 32 ", "display 32 - ", "display 32 ce0000 %F", "display 32 - %D%T\\n", "display 32 - %"};
   static char text[80000];
   size_t length = percent(90) ? from_to(253, 258) : percent(80) ? from_to(259, 600) : from_to(60000, 79999);
   const char *front = PICK(fronts);
@@ -1002,7 +1188,7 @@ static void odd_line(void) {
 }
 
 static void some_call(void) {
-  unsigned n = below(1273);
+  unsigned n = below(1343);
   if (n < 200) samples(some_bits(), 1);
   else if (n < 320) burst_call();
   else if (n < 400) run_call();
@@ -1029,7 +1215,8 @@ static void some_call(void) {
   else if (n < 1170) repeat_call();
   else if (n < 1173) round_call();
   else if (n < 1268) maker_calls();
-  else list_lines();
+  else if (n < 1273) list_lines();
+  else display_calls();
 }
 
 static void some_calls(unsigned long until) {
@@ -1137,9 +1324,11 @@ static void full_calls(unsigned long until) {
   fill(MOST_OPEN - PICK(below_top));
   few_units();
   show(BILL, 6);
+  for (unsigned b = 0; b < BILLS; b++) show_field(BILL, b, 1);
   for (unsigned long end = calls + third; calls < end;) top_call();
   line("reset");
   show(BILL, 6);
+  for (unsigned b = 0; b < BILLS; b++) show_field(BILL, b, 2);
   for (unsigned long end = calls + third / 2; calls < end;) top_call();
   some_calls(calls + third);
 }
@@ -1155,7 +1344,9 @@ static void held_calls(unsigned long until) {
   begin(any32() / 2);
   for (unsigned i = 0; i < 65540; i++) {
     impulse(65535);
-    if (i >= 65533) register_of(INPUT_REGISTER, below(INPUTS));
+    if (i < 65533) continue;
+    register_of(INPUT_REGISTER, below(INPUTS));
+    show_form(INPUT_REGISTER, below(INPUTS), 0, "");
   }
   some_calls(calls + until);
 }
@@ -1212,6 +1403,7 @@ static void damaged_calls(unsigned long until) {
   line("image");
   register_of(LEVEL9, below(SLOTS));
   maker_call();
+  display_call();
   some_calls(until < 40 ? until : 40);
   begin(some_time());
   show(BILL, 2);

@@ -292,6 +292,7 @@ unsigned some_status(void) {
 const unsigned groups[GROUPS] = {82, 89, 90, 91, 201, 202, 203, 204, 206};
 const unsigned registers[GROUPS] = {32, 1, 32, 16, 16, 16, 16, 1, 1};
 const unsigned lengths[GROUPS] = {10, 2, 1, 1, 13, 13, 4, 13, 5};
+const unsigned fields[GROUPS] = {4, 1, 1, 1, 3, 4, 2, 6, 2};
 
 /* Lists: of each kind of things none, all, one, those in use, those that are not, or any. */
 

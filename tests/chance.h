@@ -52,8 +52,8 @@ int some_value(void);
 unsigned some_status(void);
 struct list some_list(void);
 
-/* The groups, how many registers each has, and their bytes. */
-extern const unsigned groups[GROUPS], registers[GROUPS], lengths[GROUPS];
+/* The groups, how many registers each has, their bytes and their fields. */
+extern const unsigned groups[GROUPS], registers[GROUPS], lengths[GROUPS], fields[GROUPS];
 enum { SERIAL, TARIFF_MAP, DAILY_RESULT, WEEKLY_RESULT, LEVEL9, BILL, INPUT_REGISTER, FLEET, CLOCK };
 
 /* What is on a list of a group's registers: all, where the group is common. */

@@ -75,6 +75,20 @@ static void answer_record(uint32_t index, uint32_t room) {
     answer_given(peer_record(&recorder, lent, index, bytes, room), bytes);
 }
 
+static void answer_display(uint32_t room, struct sent arguments, struct sent format) {
+    uint8_t shown[DISPLAY_LENGTH];
+    uint32_t refusal = peer_display(&recorder, format, arguments, shown, room);
+    if (refusal != 0) {
+        answer(refusal);
+        return;
+    }
+    for (int i = 0; i < DISPLAY_LINES; i++) {
+        putchar('|');
+        fwrite(shown + DISPLAY_WIDTH * i, 1, DISPLAY_WIDTH, stdout);
+    }
+    puts("|");
+}
+
 static void answer_image(void) {
     uint8_t written[IMAGE_LENGTH];
     uint32_t refusal = peer_write_image(&recorder, written, sizeof written);
@@ -267,6 +281,13 @@ static void maker_line(void) {
         answer_maker(maker, group, n, room);
 }
 
+static void display_line(void) {
+    uint32_t room;
+    struct sent arguments;
+    if (words < 4) wrong_words("needs ROOM HEX TEXT");
+    else if (number(1, "ROOM", UINT32_MAX, &room) && hex(2, &arguments)) answer_display(room, arguments, text(3));
+}
+
 static void take_list(uint32_t maker, struct list list) {
     if (maker < MAKERS) lists[maker] = list;
     answer(maker < MAKERS ? 0 : NO_MAKER);
@@ -334,6 +355,7 @@ static void answer_line(const char *line, size_t length) {
     else if (command("register")) register_line();
     else if (command("maker")) maker_line();
     else if (command("list")) list_line();
+    else if (command("display")) display_line();
     else if (command("profile")) profile_line();
     else if (command("record")) record_line();
     else if (command("reset") || command("image") || command("fleet")) line_of_one_word();

@@ -709,6 +709,200 @@ int peer_maker_register(const struct recorder *r, uint32_t maker, uint32_t group
     return given;
 }
 
+/* ---- The hall display. */
+
+/* What is shown, and where the next character goes. */
+struct page {
+    uint8_t shown[DISPLAY_LENGTH];
+    size_t line, column;
+};
+
+/* Document 02: "Characters past the sixteenth of a line are dropped, and lines after the second too". */
+static void show(struct page *p, uint8_t letter) {
+    if (p->line < DISPLAY_LINES && p->column < DISPLAY_WIDTH) p->shown[DISPLAY_WIDTH * p->line + p->column] = letter;
+    p->column++;
+}
+
+static void break_line(struct page *p) {
+    p->line++;
+    p->column = 0;
+}
+
+/* With as many digits as are asked for: a day, a month, a year or what a clock shows. */
+static void show_digits(struct page *p, uint32_t n, uint32_t digits) {
+    if (digits > 1) show_digits(p, n / 10, digits - 1);
+    show(p, (uint8_t)('0' + n % 10));
+}
+
+static void show_three(struct page *p, uint32_t a, uint32_t b, uint32_t c, uint8_t between, uint32_t last_digits) {
+    show_digits(p, a, 2);
+    show(p, between);
+    show_digits(p, b, 2);
+    show(p, between);
+    show_digits(p, c, last_digits);
+}
+
+/* Document 02: "per cent D (03.03.1973), per cent T (09:46:40)", both of the clock. */
+static void show_date(struct page *p, uint32_t clock) {
+    struct moment m = moment_of(clock);
+    show_three(p, m.day, m.month, m.year, '.', 4);
+}
+
+static void show_time(struct page *p, uint32_t clock) { show_three(p, clock / 3600 % 24, clock / 60 % 60, clock % 60, ':', 2); }
+
+/* The bytes of each field of a register, in the order of document 01's table; less than 0 where it is signed. */
+enum { MOST_FIELDS = 6 };
+static const struct fields {
+    uint8_t group;
+    int8_t bytes[MOST_FIELDS];
+} fields[] = {{82, {4, -4, 1, 1}}, {89, {2}}, {90, {1}}, {91, {1}}, {201, {1, 4, -8}}, {202, {1, 4, 4, 4}}, {203, {2, 2}}, {204, {1, 1, 1, 1, 1, -8}}, {206, {4, 1}}};
+
+static const int8_t *fields_of(uint32_t group) {
+    const struct fields *f = fields;
+    while (f->group != group) f++; /* it is one of the table's: its register was given */
+    return f->bytes;
+}
+
+/* The number of n bytes. A negative one has ones above its bytes. */
+static int64_t number_of(const uint8_t *b, int n, bool is_signed) {
+    uint64_t x = is_signed && (b[n - 1] & 128) != 0 ? UINT64_MAX : 0;
+    for (int i = n; i > 0; i--) x = x << 8 | b[i - 1];
+    return (int64_t)x;
+}
+
+/* What a register request gives for group, register and field. False where it gives nothing: no such group, register or field, or a register that is not fitted. */
+static bool read_field(const struct recorder *r, uint32_t group, uint32_t number, uint32_t field, int64_t *value) {
+    uint8_t b[LONGEST_REGISTER];
+    uint32_t at = 0;
+    if (peer_register(r, group, number, b, sizeof b) < 0) return false;
+    const int8_t *bytes = fields_of(group);
+    if (field >= MOST_FIELDS || bytes[field] == 0) return false;
+    for (uint32_t i = 0; i < field; i++) at += (uint32_t)(bytes[i] < 0 ? -bytes[i] : bytes[i]);
+    *value = number_of(b + at, bytes[field] < 0 ? -bytes[field] : bytes[field], bytes[field] < 0);
+    return true;
+}
+
+/* What stands between the per cent sign and its F. */
+struct form {
+    bool zeros, shifted;
+    uint32_t width, decimals; /* 0 where there are none */
+};
+
+/* A number from its last character to its first: then each digit is a remainder, and what fills it up comes at the end. */
+struct backwards {
+    uint8_t letters[40]; /* 19 digits, a point, nine decimals and a sign at most, or the width */
+    size_t count;
+};
+
+static void put_before(struct backwards *b, uint8_t letter) { b->letters[b->count++] = letter; }
+
+/* Document 02: "Width counts sign and point; a digit stands before each point, without u zeros after it; without decimals, or with 0, no point shows; padding stands on the left
+   (blanks, or if the zero stands, zeros after the sign), and a longer number is shown whole." */
+static void show_number(struct page *p, struct form f, int64_t value) {
+    struct backwards b = {.count = 0};
+    bool minus = value < 0;
+    uint64_t size = minus ? -(uint64_t)value : (uint64_t)value;
+    for (uint32_t i = 0; i < f.decimals; i++) {
+        put_before(&b, (uint8_t)(f.shifted ? '0' + size % 10 : '0'));
+        if (f.shifted) size /= 10;
+    }
+    if (f.decimals > 0) put_before(&b, '.');
+    do {
+        put_before(&b, (uint8_t)('0' + size % 10));
+        size /= 10;
+    } while (size > 0);
+    while (f.zeros && b.count + minus < f.width) put_before(&b, '0');
+    if (minus) put_before(&b, '-');
+    while (b.count < f.width) put_before(&b, ' ');
+    while (b.count > 0) show(p, b.letters[--b.count]);
+}
+
+/* What is left of a string. */
+static bool next_is(struct sent s, uint8_t letter) { return s.length > 0 && s.bytes[0] == letter; }
+
+static void skip(struct sent *s, size_t n) {
+    s->bytes += n;
+    s->length -= n;
+}
+
+static bool take(struct sent *s, uint8_t letter) {
+    bool there = next_is(*s, letter);
+    if (there) skip(s, 1);
+    return there;
+}
+
+/* A digit, or 10 where none is next. */
+static uint32_t next_digit(struct sent s) { return s.length > 0 && is_digit(s.bytes[0]) ? (uint32_t)(s.bytes[0] - '0') : 10; }
+
+/* 1 to 16 without a zero in front. Where more digits follow, no F does, and it is seen there. */
+static uint32_t take_width(struct sent *s) {
+    uint32_t width = next_digit(*s), second;
+    if (width == 0 || width == 10) return 0;
+    skip(s, 1);
+    second = next_digit(*s);
+    if (width != 1 || second > 6) return width;
+    skip(s, 1);
+    return 10 + second;
+}
+
+/* Document 02: "per cent, optional zero, optional width 1 to 16 without leading zero, optional point with one digit of decimals, optional u, and F". The per cent sign was taken. */
+static bool take_form(struct sent *s, struct form *f) {
+    f->zeros = take(s, '0');
+    f->width = take_width(s);
+    f->decimals = 0;
+    if (take(s, '.')) {
+        f->decimals = next_digit(*s);
+        if (f->decimals > 9) return false;
+        skip(s, 1);
+    }
+    f->shifted = take(s, 'u');
+    return take(s, 'F');
+}
+
+/* "F uses up three argument bytes each (group, register, field from 0)". */
+static bool take_field(const struct recorder *r, struct sent *arguments, int64_t *value) {
+    if (arguments->length < 3) return false;
+    const uint8_t *a = arguments->bytes;
+    skip(arguments, 3);
+    return read_field(r, a[0], a[1], a[2], value);
+}
+
+/* A specification behind its per cent sign: the refusal, or 0. */
+static uint32_t show_specification(const struct recorder *r, struct page *p, struct sent *format, struct sent *arguments) {
+    struct form form;
+    int64_t value;
+    if (take(format, 'D')) show_date(p, r->clock);
+    else if (take(format, 'T')) show_time(p, r->clock);
+    else if (!take_form(format, &form)) return FORMAT;
+    else if (!take_field(r, arguments, &value)) return ARGUMENT;
+    else show_number(p, form, value);
+    return 0;
+}
+
+static bool break_next(struct sent s) { return s.length > 1 && s.bytes[0] == '\\' && s.bytes[1] == 'n'; }
+
+/* Document 02: "Refusals: 13 NO ROOM first, for a buffer below 32 bytes; then in string order 21 FORMAT for a bad specification, 22 ARGUMENT when bytes are missing or name no
+   readable field." What is dropped is gone through as all else is. */
+uint32_t peer_display(const struct recorder *r, struct sent format, struct sent arguments, uint8_t *buffer, size_t room) {
+    struct page page = {.line = 0};
+    if (room < DISPLAY_LENGTH) return NO_ROOM;
+    memset(page.shown, ' ', sizeof page.shown); /* "what isn't written is blank" */
+    while (format.length > 0) {
+        if (break_next(format)) {
+            skip(&format, 2);
+            break_line(&page);
+        } else if (take(&format, '%')) {
+            uint32_t refusal = show_specification(r, &page, &format, &arguments);
+            if (refusal != 0) return refusal;
+        } else {
+            show(&page, format.bytes[0]);
+            skip(&format, 1);
+        }
+    }
+    memcpy(buffer, page.shown, sizeof page.shown);
+    return 0;
+}
+
 /* ---- The load profile. */
 
 /* Document 02: "Reading goes in writing order, oldest first (index 0)." */

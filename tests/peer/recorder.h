@@ -1,5 +1,5 @@
 /*
- * Another recorder: the rules of document 01, of the change requests of document 02 that have landed (1 to 6) and the decided points, in plain C. It shares no code and no
+ * Another recorder: the rules of document 01, of the change requests of document 02 that have landed (1 to 7) and the decided points, in plain C. It shares no code and no
  * definition with the crates.
  *
  * It serves all comparisons: the program hall is compared with it on random calls, on stored answers and on the cases (hall.c beside this file reads the lines), the C
@@ -13,12 +13,13 @@
 #include <stdint.h>
 
 enum { IMAGE_LENGTH = 1126, LONGEST_REGISTER = 13, RECORD_LENGTH = 69, LONGEST_PROFILE = 65536 };
+enum { DISPLAY_LINES = 2, DISPLAY_WIDTH = 16, DISPLAY_LENGTH = DISPLAY_LINES * DISPLAY_WIDTH };
 enum { INPUTS = 16, SUMS = 8, FUNCTIONS = 4, SLOTS = 16, CHOSEN = 8, METERS = 32, MAKERS = 3 };
 enum { DAILY = 32, WINDOWS = 4, WEEKLY = 16, SEASONS = 8, HOLIDAYS = 32, RULES = 16, BILLS = 16 };
 
 /* "Numbers of refusal." 9, NO DATE, is never given: each time of 32 bits has a date. */
 enum { LENGTH = 1, MARK, VERSION, VALUE, CLOCK_END, FULL, NO_METER, NOT_FITTED, READING = 10, NO_GROUP, NO_REGISTER, NO_ROOM, PROFILE_BUFFER, NO_RECORD, BLOCK, LINE,
-       NOT_A_NUMBER, DOES_NOT_FIT, NO_MAKER };
+       NOT_A_NUMBER, DOES_NOT_FIT, NO_MAKER, FORMAT, ARGUMENT };
 
 /* What is fixed: the image, and what samples ask for at every turn, worked out of it once. */
 struct config {
@@ -83,7 +84,7 @@ struct fleet {
     int64_t sum;
 };
 
-/* What a meter sent: a line, which is one data set without a line end, or the block around its lines. */
+/* Bytes that a caller gives: what a meter sent, which is a line, one data set without a line end, or the block around its lines; or a format string, or its arguments. */
 struct sent {
     const uint8_t *bytes;
     size_t length;
@@ -137,6 +138,9 @@ int peer_register(const struct recorder *r, uint32_t group, uint32_t number, uin
 
 /* The same for a maker, who reads what is on the list, and a fleet of the list's meters. */
 int peer_maker_register(const struct recorder *r, uint32_t maker, uint32_t group, uint32_t number, uint8_t *buffer, size_t room);
+
+/* The hall display: both lines of a format string, one behind the other. The refusal, or 0; only with 0 is the buffer written, and of it the first 32 bytes. */
+uint32_t peer_display(const struct recorder *r, struct sent format, struct sent arguments, uint8_t *buffer, size_t room);
 
 /* A record of the load profile, the oldest by index 0, as the lent buffer holds it. The bytes given, or minus the refusal. */
 int peer_record(const struct recorder *r, struct lent lent, uint32_t index, uint8_t *buffer, size_t room);

@@ -1,27 +1,26 @@
--- Laws of texts (specs/Texts.antt) and of numbers in letters (specs/Numbers.antt): turns of the loops, and digits that are enough.
+-- Laws of texts (specs/Texts.antt) and of numbers in letters (specs/Numbers.antt): turns of the loops.
 use mathlib.Core.Path.{_≡_, refl}
 use mathlib.Core.Bool.{true, false, true≢false}
 use mathlib.Core.List.{List, [], _∷_, _++_, append-nil}
-use Prim.Native.Nat.{ℕ, zero, suc, _+_, _-_, _*_, _/_, _^_, _<_, _≤_}
-use native.Mathlib.Nat.{pow-suc, lt-trans, not-suc-le-zero}
-use borrow.Author.Tests.{lt-ltb, le-ltb, ltb-true, le-leb, lt-leb}
+use Prim.Native.Nat.{ℕ, _+_, _-_, _/_, _<_, _≤_}
+use native.Mathlib.Nat.{not-suc-le-zero}
+use borrow.Author.Tests.{ltb-true, le-leb, lt-leb}
 use native.Mathlib.Numerals.{add-one}
 use native.Mathlib.Omega.{arith}
-use lib.Dec.{ltb, eqb, lit<}
+use lib.Dec.{eqb}
 use lib.IntN.{ℤ, pos, negsuc}
 use lib.Signed.{mag, ltZ}
 use lib.ListN.{length, getD, take, drop, length-drop, drop-of-length-le, List·getD-eq-default}
 use lib.Seq.{drop-cons, take-all}
 use mir.Syntax.{w64}
 use mir.Val.{ofZ}
-use Rattle.laws.proofs.Tests.{by-test}
 use Rattle.laws.specs.Answers.{given}
 use Rattle.laws.specs.If.{if_then_else_}
 use Rattle.laws.specs.Letters.{letters}
 use Rattle.answers.specs.declared.Text.{Text}
 use Rattle.answers.specs.Texts.{withByte, withBytes, rowAt}
-use Rattle.laws.specs.Decimals.{digit, decimalIn}
-use Rattle.answers.specs.Numbers.{decimalOf, decimalSigned, hexDigit, hexOf}
+use Rattle.laws.specs.Decimals.{decimalOf}
+use Rattle.answers.specs.Numbers.{decimalSigned, hexDigit, hexOf}
 use Rattle.answers.specs.Answers.{lineEnd, imagePart, weekdayNames, weekdayName}
 
 -- letters after letters
@@ -64,42 +63,6 @@ module _ (k : ℕ) (l : List ℕ) (i : ℕ) where
   pub row-done : length l ≤ i → rowAt k (drop i l) ≡ []
   unfolding rowAt
   row-done h = rw (drop-of-length-le l h)
-
--- a number below 10 is one digit
-one-digit : (k n : ℕ) → n < 10 → decimalIn (suc k) n ≡ digit n ∷ []
-unfolding decimalIn
-one-digit k n h = rw (lt-ltb n 10 h)
-
--- one place more than a number has digits changes nothing
-more-places : (k n : ℕ) → n < 10 ^ suc k → decimalIn (suc k) n ≡ decimalIn (suc (suc k)) n
-unfolding decimalIn
-more-places zero n h = let s : n < 10 = h in rw (lt-ltb n 10 s)
-more-places (suc k) n h =
-    let g : n < 10 ^ suc k * 10 = rw (pow-suc 10 (suc k)) at h in
-    let s : n / 10 < 10 ^ suc k = omega arith in
-    by-test (ltb n 10) (λ e. rw e) (λ e. rw (e, more-places k (n / 10) s))
-
--- a longer number
-longer : (k n : ℕ) → 10 ≤ n → decimalIn (suc k) n ≡ decimalIn k (n / 10) ++ (digit n ∷ [])
-unfolding decimalIn
-longer k n h = rw (le-ltb n 10 h)
-
--- any other is the number without its last digit, and that digit
-last-digit : (k n : ℕ) → 10 ≤ n → n < 10 ^ suc (suc k) → decimalIn (suc (suc k)) n ≡ decimalIn (suc (suc k)) (n / 10) ++ (digit n ∷ [])
-last-digit k n h g =
-    let l : n < 10 ^ suc k * 10 = rw (pow-suc 10 (suc k)) at g in
-    let s : n / 10 < 10 ^ suc k = omega arith in
-    rw (← more-places k (n / 10) s) (longer (suc k) n h)
-
--- the same of a number of 64 bits
-module _ (n : ℕ) where
-  pub decimal-short : n < 10 → decimalOf n ≡ digit n ∷ []
-  unfolding decimalOf
-  decimal-short h = one-digit 19 n h
-
-  pub decimal-long : 10 ≤ n → n < 2 ^ 64 → decimalOf n ≡ decimalOf (n / 10) ++ (digit n ∷ [])
-  unfolding decimalOf
-  decimal-long h g = last-digit 18 n h (lt-trans g (lit< tt))
 
 -- a negative number: the minus, and what stands behind it
 pub signed-negative : (z : ℤ) → ltZ z (pos 0) ≡ true → decimalSigned z ≡ 45 ∷ decimalOf (mag z + 1)

@@ -14,6 +14,7 @@ use Rattle.answers.proofs.register_line.Reads as register-line-reads
 use Rattle.answers.proofs.list_line.Reads as list-line-reads
 use Rattle.answers.proofs.maker_line.Reads as maker-line-reads
 use Rattle.answers.proofs.record_line.Reads as record-line-reads
+use Rattle.answers.proofs.display_line.Reads as display-line-reads
 use Rattle.answers.proofs.image_part.Reads as image-part-reads
 use Rattle.answers.proofs.fleet_line.Reads as fleet-line-reads
 use Rattle.answers.proofs.date_line.Reads as date-line-reads
@@ -57,6 +58,9 @@ maker-line κs a x y e f p q = p ∙ sym q
 
 pub record-line : OneResult record-line-reads.Post
 record-line κs a x y e f p q = p ∙ sym q
+
+pub display-line : OneResult display-line-reads.Post
+display-line κs a x y e f p q = p ∙ sym q
 
 pub image-part : OneResult image-part-reads.Post
 image-part κs a x y e f p q = p ∙ sym q

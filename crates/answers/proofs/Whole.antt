@@ -1,15 +1,15 @@
 -- The laws of specs/Laws.antt.
 use mathlib.Core.Path.{_≡_, refl, _∙_}
 use mathlib.Core.List.{List, [], _∷_, _++_, append-assoc, append-nil}
-use Prim.Native.Nat.{ℕ, zero, suc, _+_, _-_, _*_, _/_, _≤_, _<_}
+use Prim.Native.Nat.{ℕ, zero, suc, _+_, _-_, _*_, _≤_, _<_}
 use native.Mathlib.Omega.{arith}
 use borrow.Author.Tests.{lt-ltb, le-leb, lt-leb}
-use lib.Dec.{ltb, eqb, leb}
+use lib.Dec.{eqb, leb}
 use lib.IntN.{ℤ, pos, negsuc}
 use lib.ListN.{length, replicate, take, drop, length-append, length-take, length-drop, take-append-drop}
 use lib.Seq.{set-append-seam, append-snoc, take-all, drop-drop}
+use Rattle.laws.proofs.Digits.{decimal-places}
 use Rattle.laws.proofs.If.{if-cases}
-use Rattle.laws.proofs.Tests.{by-test}
 use Rattle.laws.specs.Answers.{Answer, given, refused}
 use Rattle.laws.specs.Letters.{letters}
 use Rattle.lines.specs.declared.Mistake.{Mistake}
@@ -25,10 +25,10 @@ use Rattle.recorder.specs.Meters.{Stamping, renewed, kept}
 use Rattle.image.specs.Answers.{imageAnswer}
 use Rattle.answers.specs.declared.Text.{Text}
 use Rattle.answers.specs.Texts.{withByte, withBytes, asText}
-use Rattle.laws.specs.Decimals.{decimalIn}
-use Rattle.answers.specs.Numbers.{decimalOf, decimalSigned, hexOf}
+use Rattle.laws.specs.Decimals.{decimalIn, decimalOf}
+use Rattle.answers.specs.Numbers.{decimalSigned, hexOf}
 use Rattle.answers.specs.Errors.{wordsText, numbersText, mistakeText}
-use Rattle.answers.specs.Answers.{lineEnd, okLine, refusedLine, refusedAt, refusedAfter, readingLine, startLine, registerLine, recordLine, imagePart, blockLine, valueLine, dataSetLine, weekdayName, dateLine, fleetLine, errorLine}
+use Rattle.answers.specs.Answers.{lineEnd, okLine, refusedLine, refusedAt, refusedAfter, readingLine, startLine, registerLine, recordLine, shownLine, displayLine, imagePart, blockLine, valueLine, dataSetLine, weekdayName, dateLine, fleetLine, errorLine}
 use Rattle.answers.specs.Laws.{TextIs, Fits, NoneCut, EmptyLine, partsFrom, PartsJoin}
 
 -- letters with zeros behind them
@@ -55,22 +55,11 @@ fill-bytes p (b ∷ l) h =
 pub text-is : TextIs
 text-is l h = fill-bytes [] l (omega arith)
 
--- a number has at most as many digits as places
-places : (k n : ℕ) → length (decimalIn k n) ≤ k
-unfolding decimalIn
-places zero n = omega arith
-places (suc k) n =
-    let h = places k (n / 10) in
-    by-test (ltb n 10) (λ e. rw e (omega arith)) (λ e. rw (e, length-append) (omega arith))
-
-digits : (n : ℕ) → length (decimalOf n) ≤ 20
-unfolding decimalOf
-digits n = places 20 n
-
+-- a minus, and at most 20 digits
 sign : (z : ℤ) → length (decimalSigned z) ≤ 21
 unfolding decimalSigned
-sign (pos n) = let h = digits n in omega arith
-sign (negsuc n) = let h = digits (suc n) in omega arith
+sign (pos n) = let h = decimal-places n in omega arith
+sign (negsuc n) = let h = decimal-places (suc n) in omega arith
 
 -- two digits for each byte
 hex-length : (l : List ℕ) → length (hexOf l) ≡ 2 * length l
@@ -109,6 +98,7 @@ words-short command.Block = omega arith
 words-short command.Blockreadout = omega arith
 words-short command.List = omega arith
 words-short command.Maker = omega arith
+words-short command.Display = omega arith
 
 numbers-short : (p : Parameter) → length (numbersText p) ≤ 60
 unfolding numbersText letters
@@ -131,7 +121,7 @@ numbers-short parameter.Meters = omega arith
 numbers-short parameter.Inputs = omega arith
 numbers-short parameter.Slots = omega arith
 numbers-short parameter.Bills = omega arith
-numbers-short (parameter.Slot k) = simp length-append (omega (arith, digits k))
+numbers-short (parameter.Slot k) = simp length-append (omega (arith, decimal-places k))
 
 mistake-short : (m : Mistake) → length (mistakeText m) ≤ 60
 unfolding mistakeText letters
@@ -143,15 +133,15 @@ mistake-short (mistake.Number p) = numbers-short p
 -- a refusal
 refused-short : (n : ℕ) → Fits (refusedLine n)
 unfolding letters
-refused-short n = simp length-append (omega (arith, digits n))
+refused-short n = simp length-append (omega (arith, decimal-places n))
 
 at-short : (n offset : ℕ) → Fits (refusedAt n offset)
 unfolding letters
-at-short n offset = simp length-append (omega (arith, digits n, digits offset))
+at-short n offset = simp length-append (omega (arith, decimal-places n, decimal-places offset))
 
 after-short : (n k : ℕ) → Fits (refusedAfter n k)
 unfolding letters
-after-short n k = simp length-append (omega (arith, digits n, digits k))
+after-short n k = simp length-append (omega (arith, decimal-places n, decimal-places k))
 
 ok-short : Fits okLine
 unfolding letters
@@ -168,6 +158,11 @@ register-short (refused n offset) bytes h = refused-short n
 record-short : (a : Answer (Unit {0})) (bytes : List ℕ) → length bytes ≡ 69 → Fits (recordLine a bytes)
 record-short (given u) bytes h = simp (length-append, hex-length) (omega arith)
 record-short (refused n offset) bytes h = refused-short n
+
+display-short : (a : Answer ℕ) (bytes : List ℕ) → Fits (displayLine a bytes)
+unfolding shownLine letters
+display-short (given n) bytes = simp (length-append, length-take) (omega arith)
+display-short (refused n offset) bytes = refused-short n
 
 image-short : (a : Answer (Unit {0})) (image : List ℕ) (from : ℕ) → Fits (imagePart a image from)
 unfolding imagePart
@@ -188,7 +183,7 @@ block-short (refused n offset) = refused-short n
 
 data-set-short : (p : Answer Place) (z : Answer ℤ) → Fits (dataSetLine p z)
 unfolding valueLine letters
-data-set-short (given p) (given z) = simp length-append (omega (arith, digits (p .start), digits (p .length), sign z))
+data-set-short (given p) (given z) = simp length-append (omega (arith, decimal-places (p .start), decimal-places (p .length), sign z))
 data-set-short (given p) (refused n offset) = refused-short n
 data-set-short (refused n offset) z = refused-short n
 
@@ -200,11 +195,12 @@ date-short (refused n offset) = refused-short n
 fleet-short : (f : Fleet) → Fits (fleetLine f)
 unfolding fleetLine letters
 fleet-short f =
-    simp length-append (omega (arith, digits (f .fitted), digits (f .awake), digits (f .stale), digits (f .invalid), digits (f .never), sign (f .sum)))
+    simp length-append
+    (omega (arith, decimal-places (f .fitted), decimal-places (f .awake), decimal-places (f .stale), decimal-places (f .invalid), decimal-places (f .never), sign (f .sum)))
 
 error-short : (n : ℕ) (m : Mistake) → Fits (errorLine n m)
 unfolding errorLine letters
-error-short n m = simp length-append (omega (arith, digits n, mistake-short m))
+error-short n m = simp length-append (omega (arith, decimal-places n, mistake-short m))
 
 pub none-cut : NoneCut
 none-cut =
@@ -214,6 +210,7 @@ none-cut =
       start = start-short;
       register = register-short;
       profile-record = record-short;
+      display = display-short;
       image = image-short;
       reading = reading-short;
       block = block-short;

@@ -13,7 +13,8 @@ use Rattle.registers.specs.declared.fleet.Fleet.{Fleet}
 use Rattle.readout.specs.DataSets.{Place}
 use Rattle.recorder.specs.Meters.{Stamping, renewed, kept}
 use Rattle.answers.specs.Errors.{mistakeText}
-use Rattle.answers.specs.Numbers.{decimalOf, decimalSigned, twoDigits, hexOf}
+use Rattle.laws.specs.Decimals.{decimalOf}
+use Rattle.answers.specs.Numbers.{decimalSigned, twoDigits, hexOf}
 
 -- the end of a line
 abbrev pub lineEnd : List ℕ
@@ -63,6 +64,15 @@ registerLine (refused n offset) bytes = refusedLine n
 abbrev pub recordLine : Answer (Unit {0}) → List ℕ → List ℕ
 recordLine (given u) bytes = hexOf bytes ++ lineEnd
 recordLine (refused n offset) bytes = refusedLine n
+
+-- `|aaaaaaaaaaaaaaaa|bbbbbbbbbbbbbbbb|`: the two lines of the display, sixteen characters each
+unfoldable pub shownLine : List ℕ → List ℕ
+shownLine bytes = letters "|" ++ (take 16 bytes ++ (letters "|" ++ (take 16 (drop 16 bytes) ++ (letters "|" ++ lineEnd))))
+
+-- the line of a display: what is shown, or the refusal
+abbrev pub displayLine : Answer ℕ → List ℕ → List ℕ
+displayLine (given n) bytes = shownLine bytes
+displayLine (refused n offset) bytes = refusedLine n
 
 -- the line of an image written back: its bytes, or the refusal
 abbrev pub imageLine : Answer (Unit {0}) → List ℕ → List ℕ

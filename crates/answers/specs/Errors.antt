@@ -8,7 +8,7 @@ use Rattle.lines.specs.declared.Command.{Command}
 use Rattle.lines.specs.declared.Command.the-variants as command
 use Rattle.lines.specs.declared.Parameter.{Parameter}
 use Rattle.lines.specs.declared.Parameter.the-variants as parameter
-use Rattle.answers.specs.Numbers.{decimalOf}
+use Rattle.laws.specs.Decimals.{decimalOf}
 
 -- the words that a command needs
 unfoldable pub wordsText : Command → List ℕ
@@ -29,6 +29,7 @@ wordsText command.Block = letters "block needs HEX"
 wordsText command.Blockreadout = letters "blockreadout needs METER STATUS SEQ DECIMALS HEX TEXT"
 wordsText command.List = letters "list needs MAKER METERS INPUTS SLOTS BILLS"
 wordsText command.Maker = letters "maker needs MAKER GROUP NUMBER or MAKER GROUP NUMBER ROOM"
+wordsText command.Display = letters "display needs ROOM HEX TEXT"
 
 -- what a parameter can be
 unfoldable pub numbersText : Parameter → List ℕ

@@ -13,7 +13,7 @@ use Rattle.readout.specs.DataSets.{Place}
 use Rattle.recorder.specs.Meters.{Stamping}
 use Rattle.registers.specs.declared.fleet.Fleet.{Fleet}
 use Rattle.answers.specs.Texts.{asText}
-use Rattle.answers.specs.Answers.{lineEnd, numberLine, readingLine, samplesLine, startLine, registerLine, recordLine, imageLine, imagePart, blockLine, dataSetLine, dateLine, fleetLine, errorLine}
+use Rattle.answers.specs.Answers.{lineEnd, numberLine, readingLine, samplesLine, startLine, registerLine, recordLine, displayLine, imageLine, imagePart, blockLine, dataSetLine, dateLine, fleetLine, errorLine}
 
 -- a text of at most 256 letters is the letters, with zeros behind them
 abbrev pub TextIs : Type 0
@@ -31,6 +31,7 @@ pub record NoneCut : Type 0 where
   pub start : (a : Answer (Unit {0})) → Fits (startLine a)
   pub register : (a : Answer ℕ) (bytes : List ℕ) → length bytes ≡ 13 → Fits (registerLine a bytes)
   pub profile-record : (a : Answer (Unit {0})) (bytes : List ℕ) → length bytes ≡ 69 → Fits (recordLine a bytes)
+  pub display : (a : Answer ℕ) (bytes : List ℕ) → Fits (displayLine a bytes)
   pub image : (a : Answer (Unit {0})) (image : List ℕ) (from : ℕ) → Fits (imagePart a image from)
   pub block : (a : Answer (Unit {0})) → Fits (blockLine a)
   pub data-set : (place : Answer Place) (number : Answer ℤ) → Fits (dataSetLine place number)

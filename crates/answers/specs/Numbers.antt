@@ -4,11 +4,7 @@ use Prim.Native.Nat.{ℕ, suc, _+_, _/_, _%_}
 use lib.Dec.{ltb}
 use lib.IntN.{ℤ, pos, negsuc}
 use Rattle.laws.specs.If.{if_then_else_}
-use Rattle.laws.specs.Decimals.{digit, decimalIn}
-
--- a number of 64 bits in decimal: it has at most 20 digits
-unfoldable pub decimalOf : ℕ → List ℕ
-decimalOf n = decimalIn 20 n
+use Rattle.laws.specs.Decimals.{digit, decimalOf}
 
 -- a number with a sign in decimal; 45 is the minus
 unfoldable pub decimalSigned : ℤ → List ℕ

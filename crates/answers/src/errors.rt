@@ -12,7 +12,7 @@ ghost use Rattle.answers.specs.Texts.{withBytes};
 ghost use Rattle.answers.specs.Errors.{wordsText, numbersText, mistakeText};
 
 // What each command needs, a row for each.
-const NEEDS: [u8; 553] = *b"start needs SECONDS\n\
+const NEEDS: [u8; 581] = *b"start needs SECONDS\n\
     sample needs BITS or BITS COUNT\n\
     set needs SECONDS\n\
     reading needs METER VALUE STATUS SEQ\n\
@@ -28,7 +28,8 @@ const NEEDS: [u8; 553] = *b"start needs SECONDS\n\
     block needs HEX\n\
     blockreadout needs METER STATUS SEQ DECIMALS HEX TEXT\n\
     list needs MAKER METERS INPUTS SLOTS BILLS\n\
-    maker needs MAKER GROUP NUMBER or MAKER GROUP NUMBER ROOM";
+    maker needs MAKER GROUP NUMBER or MAKER GROUP NUMBER ROOM\n\
+    display needs ROOM HEX TEXT";
 
 // What each parameter can be. The last row stands behind the name of a slot.
 const LIMITS: [u8; 809] = *b"SECONDS is not a number from 0 to 4294967295\n\
@@ -74,6 +75,7 @@ fn with_words(text: Text, command: Command) -> Text
         Command::Blockreadout => with_row(text, needs, 14),
         Command::List => with_row(text, needs, 15),
         Command::Maker => with_row(text, needs, 16),
+        Command::Display => with_row(text, needs, 17),
     }
 }
 

@@ -5,6 +5,7 @@ mod numbers;
 mod texts;
 
 use calendar::Dated;
+use display::DisplayAnswer;
 use image::ImageAnswer;
 use image::WriteAnswer;
 use lines::Mistake;
@@ -41,9 +42,11 @@ ghost use Rattle.profile.specs.Reading.{recordSaid};
 ghost use Rattle.registers.specs.Registers.{registerSaid};
 ghost use Rattle.makers.specs.Lists.{listNumber};
 ghost use Rattle.makers.specs.Requests.{makerSaid};
+ghost use Rattle.display.specs.Displays.{displaySaid};
 ghost use Rattle.answers.specs.Texts.{withBytes, asText};
-ghost use Rattle.answers.specs.Numbers.{decimalOf, hexOf};
-ghost use Rattle.answers.specs.Answers.{okLine, refusedLine, refusedAt, refusedAfter, numberLine, readingLine, samplesLine, startLine, registerLine, recordLine, imagePart, blockLine, valueLine, dataSetLine, lineEnd, dateLine, classesText, fleetLine, errorLine};
+ghost use Rattle.laws.specs.Decimals.{decimalOf};
+ghost use Rattle.answers.specs.Numbers.{hexOf};
+ghost use Rattle.answers.specs.Answers.{okLine, refusedLine, refusedAt, refusedAfter, numberLine, readingLine, samplesLine, startLine, registerLine, recordLine, shownLine, displayLine, imagePart, blockLine, valueLine, dataSetLine, lineEnd, dateLine, classesText, fleetLine, errorLine};
 
 // A text of at most 256 letters: the first `length` bytes, and zeros behind them.
 pub struct Text {
@@ -246,6 +249,27 @@ pub fn record_line(answer: RecordAnswer, bytes: [u8; 69]) -> Text
         RecordAnswer::ProfileBuffer => refused(14),
         RecordAnswer::NoRecord => refused(15),
         RecordAnswer::NoRoom => refused(13),
+    }
+}
+
+// The two lines of the display stand one after the other in the buffer.
+fn shown_line(bytes: [u8; 32]) -> Text
+    ensures { λ r. ⌜ r ≡ asText (shownLine bytes) ⌝ }
+{
+    let first = with_bytes(with_byte(texts::blank(), b'|'), &bytes[0..16]);
+    let second = with_bytes(with_byte(first, b'|'), &bytes[16..32]);
+    with_bytes(second, b"|\n")
+}
+
+// What the display shows, where nothing is refused.
+pub fn display_line(answer: DisplayAnswer, bytes: [u8; 32]) -> Text
+    ensures { λ r. ⌜ r ≡ asText (displayLine (displaySaid answer) bytes) ⌝ }
+{
+    match answer {
+        DisplayAnswer::Shown => shown_line(bytes),
+        DisplayAnswer::NoRoom => refused(13),
+        DisplayAnswer::Format => refused(21),
+        DisplayAnswer::Argument => refused(22),
     }
 }
 

@@ -2,10 +2,10 @@
 use crate::Text;
 use crate::texts::with_byte;
 ghost use mathlib.Core.Path.{_≡_};
-ghost use mathlib.Core.List.{_∷_};
 ghost use Rattle.answers.specs.Texts.{withBytes};
 ghost use Rattle.laws.specs.Decimals.{digit as Decimals·digit};
-ghost use Rattle.answers.specs.Numbers.{decimalOf, decimalSigned, twoDigits, hexOf};
+ghost use Rattle.laws.specs.Decimals.{decimalOf};
+ghost use Rattle.answers.specs.Numbers.{decimalSigned, twoDigits, hexOf};
 ghost use Rattle.answers.specs.Numbers.{hexDigit as Numbers·hexDigit};
 
 fn digit(n: u64) -> u8

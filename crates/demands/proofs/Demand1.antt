@@ -53,6 +53,9 @@ use Rattle.registers.proofs.Laws.{refused-leaves}
 use Rattle.makers.specs.Lists.{listReply}
 use Rattle.makers.specs.Requests.{onList, onlyMeters, makerReply}
 use Rattle.makers.proofs.Laws.{refused-to-maker}
+use Rattle.display.specs.Fields.{readBy}
+use Rattle.display.proofs.Laws.{refused-display}
+use Rattle.demands.proofs.DisplayRefusals.{displays}
 use Rattle.demands.proofs.Sent.{line-then, block-then, lines, blocks, readout-refused, readout-given}
 use Rattle.demands.proofs.Starts.{legal-test, start-test, as-at-start}
 use Rattle.demands.specs.Demand1.{Refusal, at, Ordered, numbered, imageRefusals, noDate, sampleRefusals, readingRefusals, requestRefusals, registerRefusals, OffList, noMaker, makerRefusals, writeRefusals, ageRefusals, badLength, otherLength, badSlot, recordRefusals, badBlock, lineRefusals, RunEnds, Left, SameLeft, NumbersExact, RefusedChangesNothing, Demand1}
@@ -458,7 +461,7 @@ runs-leave r run buffer =
 
 pub numbers-exact : NumbersExact
 numbers-exact =
-    record { images = images; starts = starts; samples = samples; runs = runs; sets = sets; readings = readings; lines = lines; blocks = blocks; readouts = readouts; block-readouts = block-readouts; registers = registers; makers = makers; lists = lists; records = records; ages = ages; writes = writes }
+    record { images = images; starts = starts; samples = samples; runs = runs; sets = sets; readings = readings; lines = lines; blocks = blocks; readouts = readouts; block-readouts = block-readouts; registers = registers; makers = makers; displays = displays; lists = lists; records = records; ages = ages; writes = writes }
 
 -- a refused sample leaves the recorder and the buffer
 sample-leaves : (r : Recorder) (bits : ℕ) (buffer : List ℕ) → (sampleLent r bits buffer .reply .number ≡ 0 → ⊥) → Left r buffer (sampleLent r bits buffer)
@@ -515,6 +518,7 @@ refused-changes-nothing =
       block-readouts = block-readout-leaves;
       registers = refused-leaves;
       makers = refused-to-maker;
+      displays = λ r. refused-display (r .state .clock) (readBy r);
       lists = list-leaves;
       writes = λ c buffer n o e. rw e;
     }

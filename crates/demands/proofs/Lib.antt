@@ -10,6 +10,8 @@ pub mod Closings
 pub mod Levels
 pub mod Bills
 pub mod Sent
+pub mod Replies
+pub mod DisplayRefusals
 pub mod Demand1
 pub mod Demand3
 pub mod Checks
@@ -22,11 +24,5 @@ pub mod Repeats
 pub mod Readout
 pub mod Views
 pub mod Makers
-pub mod Example
-pub mod ProfileCases
-pub mod ClockBackCases
-pub mod RepeatsCases
-pub mod ReadoutCases
-pub mod Full
-pub mod MakersCases
+pub mod Display
 pub mod Tightness

@@ -1,6 +1,6 @@
 -- CR 6 over histories: a maker's reply is worked out from configuration, list and view.
 use mathlib.Core.Path.{_≡_, refl, sym, ap, _∙_}
-use mathlib.Core.Bool.{true, false, true≢false, not}
+use mathlib.Core.Bool.{true, true≢false, not}
 use mathlib.Core.List.{List, _++_}
 use Prim.Native.Nat.{ℕ, _<_}
 use borrow.Author.Tests.{eqb-true, leb-false}
@@ -20,7 +20,7 @@ use Rattle.recorder.specs.declared.Recorder.{Recorder}
 use Rattle.recorder.specs.declared.Setup.{Setup}
 use Rattle.registers.specs.Contents.{fleetBytes}
 use Rattle.registers.specs.Fleet.{fleetOf}
-use Rattle.registers.specs.Registers.{Group, groups, lookUp, groupOf, registersIn, registersOf, heldBy, contentsOf, RegisterReply, refusal, registerRead, replyOf, registerReply}
+use Rattle.registers.specs.Registers.{Group, groups, lookUp, groupOf, registersIn, registersOf, contentsOf, RegisterReply, refusal, registerReply}
 use Rattle.registers.proofs.Groups.{is-given, the}
 use Rattle.makers.specs.Requests.{onList, onlyMeters, makerReply}
 use Rattle.makers.proofs.Laws.{as-the-operator, fleet-of-list, everything-listed, nothing-listed}
@@ -32,24 +32,11 @@ use Rattle.demands.specs.Profile.{callsOf}
 use Rattle.demands.specs.Makers.{viewOf, shownTo, accountOfView, MakersApart, ApartInSequences, MakersOfHistory, ShownByView, EachTheirOwn}
 use Rattle.demands.proofs.Levels.{recorder-is}
 use Rattle.demands.proofs.Profile.{recorder-of-sequence}
+use Rattle.demands.proofs.Replies.{replyWith, reply-with}
 use Rattle.demands.proofs.Shown.{spelled, fleet-counts, contents-are}
 use Rattle.demands.proofs.Views.{shown-by-view}
 
--- the reply to a request of a line of the table, by the bytes that its register holds
-abbrev pub replyWith : Answer Group → Config → List ℕ → ℕ → List ℕ → RegisterReply
-replyWith (refused n offset) c bytes i buffer = refusal n buffer
-replyWith (given g) c bytes i buffer =
-    if leb (g .registers) i then refusal 12 buffer
-    else if not (g .inUse c i) then refusal 8 buffer
-    else if not (leb (g .bytes) (length buffer)) then refusal 13 buffer
-    else registerRead (g .bytes) bytes buffer
-
--- it is the reply
-reply-with : (g : Answer Group) (r : Recorder) (i : ℕ) (buffer : List ℕ) → replyOf g r i buffer ≡ replyWith g (r .config) (heldBy g r i) i buffer
-reply-with (refused n offset) r i buffer = refl
-reply-with (given g) r i buffer = refl
-
--- and only the bytes of a register that its group has matter
+-- of a reply only the bytes of a register that its group has matter
 same-bytes : (g : Answer Group) (c : Config) (x y : List ℕ) (i : ℕ) (buffer : List ℕ) → (i < registersIn g → x ≡ y) → replyWith g c x i buffer ≡ replyWith g c y i buffer
 same-bytes (refused n offset) c x y i buffer same = refl
 same-bytes (given g) c x y i buffer same = by-test (leb (g .registers) i) (λ t. rw t) (λ f. rw (same (leb-false (g .registers) i f)))

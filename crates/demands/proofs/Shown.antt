@@ -7,10 +7,10 @@ use native.Mathlib.Nat.{not-suc-le-zero}
 use native.Mathlib.Omega.{arith}
 use borrow.Author.Tests.{eqb-true, leb-false, not-true}
 use lib.Dec.{ltb, leb, eqb}
-use lib.IntN.{ℤ, pos}
+use lib.IntN.{pos}
 use lib.ListN.{getD, drop}
 use Rattle.laws.specs.If.{if_then_else_}
-use Rattle.laws.proofs.Tests.{by-test, and-left, and-right}
+use Rattle.laws.proofs.Tests.{by-test, and-left, and-right, cond-both}
 use Rattle.laws.specs.Answers.{Answer, given, refused}
 use Rattle.laws.specs.Counts.{countOf}
 use Rattle.laws.specs.SignedTotal.{totalℤ}
@@ -71,11 +71,6 @@ awake-unmarked r meter buffer n e alive =
     let m = meterAt (r .state .meters) meter in
     unmarked-by-class r meter buffer n e (eqb-true _ 0 (classes (getD (r .config .limits) meter 0) m (r .state .clock) .awake ∙ alive))
 
--- two tests after one another are both
-one-test : (own awake : Bool) (value : ℤ) → cond own (cond awake value (pos 0)) (pos 0) ≡ cond (own && awake) value (pos 0)
-one-test true awake value = refl
-one-test false awake value = refl
-
 -- The recorder that the account spells out
 
 module _ (setup : Setup) (profile : Profile) (c : Config) (a : Account) where
@@ -129,7 +124,7 @@ module _ (setup : Setup) (profile : Profile) (c : Config) (a : Account) where
       let invalid = count (λ i. eqb (getD (classesOf spelled) i 0) 2) (λ i. isInvalid (limit i) (last i .read) (last i .stamp) (last i .status) (a .time .second)) (λ i l. rw (listed i l) (conditions i .invalid)) in
       let never = count (λ i. eqb (getD (classesOf spelled) i 0) 3) (λ i. isNever (limit i) (last i .read)) (λ i l. rw (listed i l) (conditions i .never)) in
       let sum : totalℤ 32 (λ i. cond (own i) (cond (hasClass (classesOf spelled) 0 i) (meterAt (stateIn c a .meters) i .value) (pos 0)) (pos 0)) ≡ totalℤ 32 (λ i. cond (own i && awakeIn c a i) (last i .value) (pos 0)) =
-      totalℤ-cong 32 _ _ (λ i l. rw (awake-is i l, meter-is i l) (one-test (own i) (awakeIn c a i) (last i .value))) in
+      totalℤ-cong 32 _ _ (λ i l. rw (awake-is i l, meter-is i l) (sym (cond-both (own i) (awakeIn c a i) (last i .value) (pos 0)))) in
       rw (fitted, awake, stale, invalid, never, sum)
 
   fleet-is : fleetOf spelled ≡ fleetIn c a

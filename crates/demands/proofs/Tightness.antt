@@ -10,6 +10,7 @@ use Rattle.readout.proofs.Unique as readout
 use Rattle.recorder.proofs.Unique as recorder
 use Rattle.registers.proofs.Unique as registers
 use Rattle.makers.proofs.Unique as makers
+use Rattle.display.proofs.Unique as display
 use Rattle.lines.proofs.Unique as lines
 use Rattle.answers.proofs.Unique as answers
 use Rattle.host.proofs.Unique as host
@@ -80,6 +81,7 @@ tight =
       registers-fleet-of = (registers.fleet-of-once, λ κs args. tt);
       makers-give-list = (makers.give-list-once, λ κs args. tt);
       makers-read-own = (makers.read-own-once, (makers.read-own-exit, λ κs args. tt));
+      display-show = (display.show-once, (display.show-exit, λ κs args. tt));
       lines-line-of = (lines.line-of, λ κs args. tt);
       lines-text-after = (lines.text-after, λ κs args. tt);
       lines-hex-bytes = (lines.hex-bytes, λ κs args. tt);
@@ -96,6 +98,7 @@ tight =
       answers-list-line = (answers.list-line, λ κs args. tt);
       answers-maker-line = (answers.maker-line, λ κs args. tt);
       answers-record-line = (answers.record-line, λ κs args. tt);
+      answers-display-line = (answers.display-line, λ κs args. tt);
       answers-image-part = (answers.image-part, λ κs args. tt);
       answers-date-line = (answers.date-line, λ κs args. tt);
       answers-fleet-line = (answers.fleet-line, λ κs args. tt);

@@ -1,10 +1,10 @@
 -- Demand 1: "Every image, sample, reading, time and register request ends with its result or with the numbered refusal that the rules name for it. A refusal changes nothing in the recorder and no byte
 -- of the buffer given for the result. No caller has to check anything first." That no function has a precondition is in Tightness.antt.
 use mathlib.Core.Path.{_≡_}
-use mathlib.Core.Bool.{Bool, false}
+use mathlib.Core.Bool.{Bool, true, false}
 use mathlib.Core.List.{List, [], _∷_, _++_}
 use mathlib.Core.Logic.{_⊎_}
-use Prim.Native.Nat.{ℕ, _+_, _<_, _≤_}
+use Prim.Native.Nat.{ℕ, _+_, _*_, _<_, _≤_}
 use lib.Dec.{eqb}
 use lib.IntN.{ℤ}
 use lib.ListN.{length, getD, take, drop}
@@ -42,7 +42,13 @@ use Rattle.recorder.specs.declared.Setup.{Setup}
 use Rattle.registers.specs.Registers.{Group, groups, groupOf, registersOf, fitted, registerReply}
 use Rattle.makers.specs.Lists.{listReply}
 use Rattle.makers.specs.Requests.{makerReply}
+use Rattle.display.specs.Formats.{FormatPart}
+use Rattle.display.specs.Written.{WritesNumber, WrittenAs, NoSpecification}
+use Rattle.display.specs.Fields.{fieldBytes}
+use Rattle.display.specs.Displays.{displayReply}
+use Rattle.display.specs.Laws.{numbersIn}
 use Rattle.demands.specs.Starts.{LegalLength, AsAtStart}
+use Rattle.demands.specs.Shown.{readable}
 
 -- a refusal of document 01's table: its number, and when it is due, with which offset
 pub record Refusal : Type 1 where
@@ -135,6 +141,42 @@ abbrev pub makerRefusals : Recorder → ℕ → ℕ → ℕ → List ℕ → Lis
 makerRefusals r maker group register buffer =
     noMaker maker ∷ requestRefusals ((registersOf group ≤ register) ⊎ OffList (listOf (r .setup .lists) maker) group register) r group register buffer
 
+-- CR 7: three argument bytes name a readable field: a register that can be read, and one of its fields, from 0
+abbrev pub ReadableField : Config → List ℕ → Type 0
+ReadableField c arguments =
+    (3 ≤ length arguments) × (readable c (getD arguments 0 0) (getD arguments 1 0) ≡ true) × (getD arguments 2 0 < length (fieldBytes (getD arguments 0 0)))
+
+-- so do those of each of the first n numbers
+abbrev pub AllReadable : Config → List ℕ → ℕ → Type 0
+AllReadable c arguments n = (k : ℕ) → k < n → ReadableField c (drop (3 * k) arguments)
+
+-- "in string order 21 FORMAT for a bad specification": behind parts whose numbers can be shown stands a per cent, 37, and no specification behind it
+pub record FormatFirst (c : Config) (format arguments : List ℕ) : Type 0 where
+  pub parts : List FormatPart
+  pub text : List ℕ
+  pub rest : List ℕ
+  pub split : format ≡ text ++ (37 ∷ rest)
+  pub good : WrittenAs parts text
+  pub shown : AllReadable c arguments (numbersIn parts)
+  pub bad : NoSpecification rest
+
+-- "22 ARGUMENT when bytes are missing or name no readable field": behind such parts stands a number whose bytes name none
+pub record ArgumentFirst (c : Config) (format arguments : List ℕ) : Type 0 where
+  pub parts : List FormatPart
+  pub text : List ℕ
+  pub rest : List ℕ
+  pub specification : List ℕ
+  pub split : format ≡ text ++ (specification ++ rest)
+  pub good : WrittenAs parts text
+  pub shown : AllReadable c arguments (numbersIn parts)
+  pub written : WritesNumber specification
+  pub unreadable : ReadableField c (drop (3 * numbersIn parts) arguments) → ⊥
+
+-- "13 NO ROOM first, for a buffer below 32 bytes; then in string order" 21 and 22: of these two at most one is due
+abbrev pub displayRefusals : Config → List ℕ → List ℕ → List ℕ → List Refusal
+displayRefusals c format arguments buffer =
+    at 13 0 (length buffer < 32) ∷ at 21 0 (FormatFirst c format arguments) ∷ at 22 0 (ArgumentFirst c format arguments) ∷ []
+
 -- "writing an image gives 4, with the offset the entry would have, then 13"
 abbrev pub writeRefusals : Config → List ℕ → List Refusal
 writeRefusals c buffer = record { number = 4; due = FirstBadAt (sections c) } ∷ at 13 0 (length buffer < 1126) ∷ []
@@ -210,6 +252,8 @@ pub record NumbersExact : Type 0 where
       → Ordered (registerRefusals r group register buffer) (registerReply r group register buffer .answer)
   pub makers : (r : Recorder) (maker group register : ℕ) (buffer : List ℕ)
       → Ordered (makerRefusals r maker group register buffer) (makerReply r maker group register buffer .answer)
+  pub displays : (r : Recorder) (format arguments buffer : List ℕ)
+      → Ordered (displayRefusals (r .config) format arguments buffer) (displayReply r format arguments buffer .answer)
   pub lists : (setup : Setup) (maker : ℕ) (list : MakerList) → Ordered (noMaker maker ∷ []) (numbered (listReply setup maker list .number))
   pub records : (p : Profile) (index : ℕ) (buffer result : List ℕ)
       → Ordered (recordRefusals p index buffer result) (recordReply p index buffer result .answer)
@@ -241,6 +285,8 @@ pub record RefusedChangesNothing : Type 0 where
       → registerReply r group register buffer .answer ≡ refused n offset → registerReply r group register buffer .buffer ≡ buffer
   pub makers : (r : Recorder) (maker group register : ℕ) (buffer : List ℕ) (n offset : ℕ)
       → makerReply r maker group register buffer .answer ≡ refused n offset → makerReply r maker group register buffer .buffer ≡ buffer
+  pub displays : (r : Recorder) (format arguments buffer : List ℕ) (n offset : ℕ)
+      → displayReply r format arguments buffer .answer ≡ refused n offset → displayReply r format arguments buffer .buffer ≡ buffer
   pub lists : (setup : Setup) (maker : ℕ) (list : MakerList) → (listReply setup maker list .number ≡ 0 → ⊥) → listReply setup maker list .after ≡ setup
   pub writes : (c : Config) (buffer : List ℕ) (n offset : ℕ) → writeAnswer c (length buffer) ≡ refused n offset → afterWrite c buffer ≡ buffer
 

@@ -1,4 +1,4 @@
--- The owner's demands, stated for an auditor: what a history says by itself, the three demands, the table, tightness, and examples. Each statement has its proof in proofs/.
+-- The owner's demands, stated for an auditor: what a history says by itself, the three demands, what the change requests bring, the table, and tightness. Each statement has its proof in proofs/.
 pub mod Account
 pub mod Starts
 pub mod Energy
@@ -12,11 +12,6 @@ pub mod ClockBack
 pub mod Repeats
 pub mod Readout
 pub mod Makers
+pub mod Display
 pub mod Table
-pub mod Example
-pub mod ProfileCases
-pub mod ClockBackCases
-pub mod RepeatsCases
-pub mod ReadoutCases
-pub mod MakersCases
 pub mod Tightness

@@ -15,6 +15,7 @@ use Rattle.laws.specs.SignedTotal.{totalℤ}
 use Rattle.calendar.specs.Moments.{momentOf}
 use Rattle.tariff.specs.Daily.{dailyActive}
 use Rattle.tariff.specs.Rules.{forceMapAt}
+use Rattle.settings.specs.Rules.{zeroInput, zeroSlot, zeroRegister}
 use Rattle.settings.specs.declared.Config.{Config}
 use Rattle.counting.specs.declared.Bill.{Bill}
 use Rattle.counting.specs.declared.Line.{Line}
@@ -94,6 +95,19 @@ abbrev pub fleetShown : Fleet → List ℕ
 fleetShown f =
     bytesOf 1 (f .fitted)
     ++ (bytesOf 1 (f .awake) ++ (bytesOf 1 (f .stale) ++ (bytesOf 1 (f .invalid) ++ (bytesOf 1 (f .never) ++ bytesOf 8 (ofZ w64 (f .sum))))))
+
+-- a register that the table has, and that is in use: what can be read, by the configuration alone
+unfoldable pub readable : Config → ℕ → ℕ → Bool
+readable c group i =
+    if eqb group 82 then ltb i 32 && not (eqb (getD (c .limits) i 0) 0)
+    else if eqb group 89 then ltb i 1
+    else if eqb group 90 then ltb i 32
+    else if eqb group 91 then ltb i 16
+    else if eqb group 201 then ltb i 16 && not (eqb (getD (c .slots) i zeroSlot .level) 255)
+    else if eqb group 202 then ltb i 16 && not (eqb (getD (c .registers) i zeroRegister .sum) 255)
+    else if eqb group 203 then ltb i 16 && not (eqb (getD (c .inputs) i zeroInput .kind) 0)
+    else if eqb group 204 then ltb i 1
+    else eqb group 206 && ltb i 1
 
 -- the bytes of register i of a group of the table; "206 clock: seconds 4, samples in this second 1"
 unfoldable pub shown : Config → Account → ℕ → ℕ → List ℕ

@@ -67,6 +67,7 @@ use Rattle.registers.proofs.read_register.Reads as registers-read-register
 use Rattle.registers.proofs.fleet_of.Reads as registers-fleet-of
 use Rattle.makers.proofs.give_list.Reads as makers-give-list
 use Rattle.makers.proofs.read_own.Reads as makers-read-own
+use Rattle.display.proofs.show.Reads as display-show
 use Rattle.lines.proofs.line_of.Reads as lines-line-of
 use Rattle.lines.proofs.text_after.Reads as lines-text-after
 use Rattle.lines.proofs.hex_bytes.Reads as lines-hex-bytes
@@ -83,6 +84,7 @@ use Rattle.answers.proofs.register_line.Reads as answers-register-line
 use Rattle.answers.proofs.list_line.Reads as answers-list-line
 use Rattle.answers.proofs.maker_line.Reads as answers-maker-line
 use Rattle.answers.proofs.record_line.Reads as answers-record-line
+use Rattle.answers.proofs.display_line.Reads as answers-display-line
 use Rattle.answers.proofs.image_part.Reads as answers-image-part
 use Rattle.answers.proofs.date_line.Reads as answers-date-line
 use Rattle.answers.proofs.fleet_line.Reads as answers-fleet-line
@@ -189,6 +191,8 @@ pub record Tight : Type 1 where
   -- crate makers
   pub makers-give-list : Alone makers-give-list.Post makers-give-list.Asked
   pub makers-read-own : AloneAndLent (λ κs e. now (e .1 .1 .1 .1 .0)) makers-read-own.Post makers-read-own.Asked
+  -- crate display
+  pub display-show : AloneAndLent (λ κs e. now (e .1 .1 .1 .0)) display-show.Post display-show.Asked
   -- crate lines
   pub lines-line-of : Alone lines-line-of.Post lines-line-of.Asked
   pub lines-text-after : Handed (λ κs r. partOf r) lines-text-after.Post lines-text-after.Asked
@@ -207,6 +211,7 @@ pub record Tight : Type 1 where
   pub answers-list-line : Alone answers-list-line.Post answers-list-line.Asked
   pub answers-maker-line : Alone answers-maker-line.Post answers-maker-line.Asked
   pub answers-record-line : Alone answers-record-line.Post answers-record-line.Asked
+  pub answers-display-line : Alone answers-display-line.Post answers-display-line.Asked
   pub answers-image-part : Alone answers-image-part.Post answers-image-part.Asked
   pub answers-date-line : Alone answers-date-line.Post answers-date-line.Asked
   pub answers-fleet-line : Alone answers-fleet-line.Post answers-fleet-line.Asked

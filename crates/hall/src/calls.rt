@@ -291,6 +291,23 @@ fn read_record(desk: Desk, buffer: &[u8], out: &mut [u8], index: u32, room: u32)
     told(desk, out, answers::record_line(answer, bytes))
 }
 
+// A format string behind three words, the last of which is the argument bytes.
+fn display(desk: Desk, out: &mut [u8], text: &[u8], room: u32) -> Desk {
+    let recorder = desk.recorder;
+    let hex = lines::hex_bytes(text, 2);
+    let arguments = hex.bytes;
+    let count = hex.count;
+    let n = room_of(room, 32);
+    let mut bytes = [0u8; 32];
+    let answer = display::show(
+        recorder,
+        lines::text_after(text, 3),
+        &arguments[..count],
+        &mut bytes[..n],
+    );
+    told(desk, out, answers::display_line(answer, bytes))
+}
+
 // The image's line, part by part.
 fn write_image(desk: Desk, out: &mut [u8]) -> Desk {
     let recorder = desk.recorder;
@@ -350,6 +367,7 @@ pub(crate) fn answer(
         ),
         Line::List(maker, masks) => list(desk, out, maker, masks),
         Line::Maker(maker, group, n, room) => maker_register(desk, out, maker, group, n, room),
+        Line::Display(room) => display(desk, out, text, room),
         Line::Wrong(mistake) => told(desk, out, answers::error_line(number, mistake)),
     }
 }

@@ -1,6 +1,6 @@
 // `hall IMAGE`: a recorder, and calls on it as lines of standard input. Each line is answered by one line; a blank line and one that begins with # by none.
-// The lines are those of crate lines, the calls those of crates recorder, registers and makers, the answers those of crate answers. They are written in large pieces, and
-// all of them before more input is waited for.
+// The lines are those of crate lines, the calls those of crates recorder, registers, makers and display, the answers those of crate answers. They are written in
+// large pieces, and all of them before more input is waited for.
 mod calls;
 mod output;
 

@@ -6,7 +6,8 @@ use lib.ListN.{length, getD, length-map}
 use lib.IntN.{ℤ, pos}
 use lib.Pow.{pow-pos}
 use mir.Syntax.{Width}
-use mir.Val.{Val, SFits, hbits}
+use mir.Val.{Val, Fits, SFits, bits, hbits}
+use denote.Plain.{UInt}
 use denote.Signed.{SInt}
 use denote.Shadow.{shadow}
 use denote.Array.{each}
@@ -17,7 +18,14 @@ use Rattle.laws.specs.Each.{Each}
 pub length-mapped : {X Y : Type 0} (f : X → Y) (l : List X) (n : ℕ) → length (map f l) ≡ n → length l ≡ n
 length-mapped f l n e = sym (length-map l f) ∙ e
 
--- an element of an array of signed numbers is one of its width; past the end `getD` gives 0
+-- an element of an array of numbers is one of its width; past the end `getD` gives 0
+pub elem-fits : (w : Width) (xs : List ℕ) (us : List Val) (i : ℕ) → shadow (each ℕ (UInt w .own) xs us) → Fits w (getD xs i 0)
+elem-fits w [] us i p = record { fits = pow-pos (bits w) }
+elem-fits w (x ∷ xs) [] i p = absurd p
+elem-fits w (x ∷ xs) (u ∷ us) zero p = record { fits = p .0 .1 }
+elem-fits w (x ∷ xs) (u ∷ us) (suc i) p = elem-fits w xs us i (p .1)
+
+-- and of signed ones
 pub elem-sfits : (w : Width) (xs : List ℤ) (us : List Val) (i : ℕ) → shadow (each ℤ (SInt w .own) xs us) → SFits w (getD xs i (pos 0))
 elem-sfits w [] us i p = record { sfits = pow-pos (hbits w) }
 elem-sfits w (x ∷ xs) [] i p = absurd p

@@ -1,11 +1,11 @@
 -- Laws of specs/Bytes.antt.
-use mathlib.Core.Path.{_≡_, refl, ap}
+use mathlib.Core.Path.{_≡_, refl, sym, ap, _∙_}
 use mathlib.Core.List.{List, [], _∷_, _++_}
 use Prim.Native.Nat.{ℕ, zero, suc, _+_, _*_, _/_, _%_, _^_, _≤_, _<_}
 use native.Mathlib.Nat.{pow-suc, add-zero, le-of-suc-le-suc, not-suc-le-zero, div-lt-iff-lt-mul}
 use native.Mathlib.Omega.{arith}
 use lib.ListN.{length, getD, take, drop, length-drop}
-use lib.Seq.{getD-drop, drop-drop}
+use lib.Seq.{getD-take, getD-drop, drop-drop}
 use Rattle.laws.specs.Bytes.{Bytes, bytesOf, le}
 
 -- n bytes are n
@@ -70,3 +70,24 @@ le-1 b at = let e : getD (drop at b) 0 0 ≡ getD b at 0 = rw (getD-drop, add-ze
 pub bytesOf-1 : (x : ℕ) → x < 256 → x ∷ [] ≡ bytesOf 1 x
 unfolding bytesOf
 bytesOf-1 x h = let e : x % 256 ≡ x = omega arith in rw e
+
+-- the number of one byte more, from a place on
+pub le-turn : (n at : ℕ) (b : List ℕ) → le (suc n) (drop at b) ≡ getD b at 0 + 256 * le n (drop (at + 1) b)
+unfolding le
+le-turn n at b = rw (getD-drop at b 0 0, drop-drop 1 at b, add-zero) refl
+
+-- n bytes hold less than 256 ^ n
+pub le-below : (n : ℕ) (b : List ℕ) → Bytes b → le n b < 256 ^ n
+unfolding le
+le-below zero b byte = omega arith
+le-below (suc n) b byte =
+    let low : getD b 0 0 < 256 = byte 0 in
+    let rest = le-below n (drop 1 b) (bytes-drop 1 b byte) in
+    rw (pow-suc 256 n) (omega arith)
+
+-- what stands behind n bytes makes no difference to a number within them
+pub le-take : (n at m : ℕ) (b : List ℕ) → at + n ≤ m → le n (drop at (take m b)) ≡ le n (drop at b)
+unfolding le
+le-take zero at m b h = refl
+le-take (suc n) at m b h =
+    le-turn n at (take m b) ∙ rw (getD-take m b at 0 (omega arith), le-take n (at + 1) m b (omega arith)) (sym (le-turn n at b))

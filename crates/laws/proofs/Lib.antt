@@ -19,6 +19,7 @@ pub mod Sparse
 pub mod Keys
 pub mod Bytes
 pub mod Decimals
+pub mod Digits
 pub mod Signed
 pub mod Runs
 pub mod Parts

@@ -1,8 +1,8 @@
 -- Laws of tables. A loop `xs[i] = f(i)` has the invariant `xs ≡ fillTo f i xs₀`: by `fill-none` before the first turn, `fill-more` at a turn's end and `fill-done` after the last.
-use mathlib.Core.Path.{_≡_, refl, ap}
-use mathlib.Core.List.{List, [], _∷_}
+use mathlib.Core.Path.{_≡_, refl, sym, ap, _∙_}
+use mathlib.Core.List.{List, [], _∷_, _++_}
 use Prim.Native.Nat.{ℕ, zero, suc, _+_, _<_, _≤_}
-use native.Mathlib.Nat.{not-suc-le-zero, le-of-suc-le-suc, le-antisymm}
+use native.Mathlib.Nat.{not-suc-le-zero, le-of-suc-le-suc, le-antisymm, zero-add}
 use native.Mathlib.Numerals.{add-one}
 use native.Mathlib.Omega.{arith}
 use lib.ListN.{length, getD, set}
@@ -48,6 +48,15 @@ module _ {A : Type 0} where
   table-self zero (x ∷ xs) d e = absurd (omega arith)
   table-self (suc n) [] d e = absurd (omega arith)
   table-self (suc n) (x ∷ xs) d e = ap (λ t. x ∷ t) (table-self n xs d (omega arith))
+
+  -- a table in two parts
+  pub table-append : (m n : ℕ) (f : ℕ → A) → table (m + n) f ≡ table m f ++ table n (λ i. f (m + i))
+  unfolding table
+  table-append zero n f = rw (zero-add n) (table-cong n f (λ i. f (0 + i)) (λ i low. ap f (sym (zero-add i))))
+  table-append (suc m) n f =
+      let more : suc m + n ≡ suc (m + n) = omega arith in
+      let rest = table-cong n (λ i. f (suc (m + i))) (λ i. f (suc m + i)) (λ i low. let e : suc (m + i) ≡ suc m + i = omega arith in ap f e) in
+      rw more (ap (λ (t : List A). f 0 ∷ t) (table-append m n (λ i. f (suc i)) ∙ ap (λ (t : List A). table m (λ i. f (suc i)) ++ t) rest))
 
   -- before the first turn
   pub fill-none : (f : ℕ → A) (xs : List A) → xs ≡ fillTo f 0 xs

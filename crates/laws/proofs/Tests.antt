@@ -1,6 +1,6 @@
 -- Proofs by the outcome of a test, and from a test of several parts to its parts.
 use mathlib.Core.Path.{_≡_, refl}
-use mathlib.Core.Bool.{Bool, true, false, not, _&&_, _||_}
+use mathlib.Core.Bool.{Bool, true, false, not, _&&_, _||_, cond}
 
 -- by cases on a test, with its outcome as an equation
 pub by-test : {P : Type 0} (b : Bool) → (b ≡ true → P) → (b ≡ false → P) → P
@@ -30,3 +30,8 @@ and-not false h = refl
 pub or-right : (a b : Bool) → a ≡ false → (a || b) ≡ true → b ≡ true
 or-right true b f h = cc
 or-right false b f h = h
+
+-- two tests after one another are both
+pub cond-both : {A : Type 0} (a b : Bool) (x y : A) → cond (a && b) x y ≡ cond a (cond b x y) y
+cond-both true b x y = refl
+cond-both false b x y = refl

@@ -66,3 +66,9 @@ pub total-within : (n m : ℕ) (f : ℕ → ℕ) → ((i : ℕ) → f i ≤ m) �
 unfolding total
 total-within zero m f h = omega arith
 total-within (suc n) m f h = omega (arith, h n, total-within n m f h)
+
+-- the first one apart
+pub total-first : (n : ℕ) (f : ℕ → ℕ) → total (suc n) f ≡ f 0 + total n (λ i. f (suc i))
+unfolding total
+total-first zero f = omega arith
+total-first (suc n) f = let e = total-first n f in omega arith

@@ -23,7 +23,16 @@ valueFrom n (b ∷ rest) = valueFrom (n * 10 + (b - 48)) rest
 abbrev pub digit : ℕ → ℕ
 digit n = 48 + n % 10
 
+-- the last k digits of n
+unfoldable pub lastDigits : ℕ → ℕ → List ℕ
+lastDigits zero n = []
+lastDigits (suc k) n = lastDigits k (n / 10) ++ (digit n ∷ [])
+
 -- a number of at most k digits in decimal, with no zero in front: one digit, or the number without its last digit, and that digit
 unfoldable pub decimalIn : ℕ → ℕ → List ℕ
 decimalIn zero n = []
 decimalIn (suc k) n = if ltb n 10 then digit n ∷ [] else decimalIn k (n / 10) ++ (digit n ∷ [])
+
+-- a number of 64 bits in decimal: it has at most 20 digits
+unfoldable pub decimalOf : ℕ → List ℕ
+decimalOf n = decimalIn 20 n

@@ -13,7 +13,7 @@ use Rattle.lines.specs.Hex.{isHex}
 use Rattle.lines.specs.declared.numbers.Number.{Number}
 use Rattle.lines.specs.declared.numbers.Signed.{Signed}
 use Rattle.lines.specs.declared.Line.{Line}
-use Rattle.lines.specs.declared.Line.the-variants.{Nothing, Start, Sample, Set, Reading, Reset, Register, Image, Date, Fleet, Profile, Record, Dataset, Readout, Block, Blockreadout, Maker, Wrong}
+use Rattle.lines.specs.declared.Line.the-variants.{Nothing, Start, Sample, Set, Reading, Reset, Register, Image, Date, Fleet, Profile, Record, Dataset, Readout, Block, Blockreadout, Maker, Display, Wrong}
 use Rattle.lines.specs.declared.Line.the-variants as line
 use Rattle.lines.specs.declared.Mistake.the-variants as mistake
 use Rattle.lines.specs.declared.Command.{Command}
@@ -126,6 +126,10 @@ datasetAsked d = if not (d .ok) then bad parameter.Decimals else Dataset (d .val
 abbrev pub withHex : List ℕ → Line → Line
 withHex w line = if not (isHex w) then bad parameter.Hex else line
 
+-- a display: ROOM, and HEX in word 2; the first that is wrong is told
+abbrev pub displayAsked : Number → List ℕ → Line
+displayAsked room text = if not (room .ok) then bad parameter.Room else withHex (word 2 text) (Display (room .value))
+
 -- what is asked with the numbers of a readout: with HEX, in word 5, or without
 abbrev pub withReadout : Bool → List ℕ → ℕ → ℕ → ℕ → ℕ → Line
 withReadout true text m s q d = withHex (word 5 text) (Blockreadout m s q d)
@@ -163,6 +167,7 @@ hasWords command.Block n = eqb n 2
 hasWords command.Blockreadout n = leb 7 n
 hasWords command.List n = eqb n 6
 hasWords command.Maker n = eqb n 4 || eqb n 5
+hasWords command.Display n = leb 4 n
 
 -- what a line of a command asks; COUNT is 1 where it is not written, and ROOM 69, a record
 unfoldable pub askedOf : Command → List ℕ → Line
@@ -183,6 +188,7 @@ askedOf command.Block text = withHex (word 1 text) Block
 askedOf command.Blockreadout text = readoutOf true text
 askedOf command.List text = listAsked (number8 1 text) (number32 2 text) (number16 3 text) (number16 4 text) (number16 5 text)
 askedOf command.Maker text = makerAsked (number8 1 text) text
+askedOf command.Display text = displayAsked (number32 1 text) text
 
 -- the commands by their words
 unfoldable pub commands : List (List ℕ × Command)
@@ -204,6 +210,7 @@ commands =
     ∷ (letters "blockreadout", command.Blockreadout)
     ∷ (letters "list", command.List)
     ∷ (letters "maker", command.Maker)
+    ∷ (letters "display", command.Display)
     ∷ []
 
 -- the command that a table has for a word

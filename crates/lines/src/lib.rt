@@ -46,6 +46,8 @@ pub enum Line {
     List(u8, Masks),
     // Maker, group, register, room.
     Maker(u8, u32, u32, u32),
+    // Room; HEX is word 2, and TEXT stands behind 3.
+    Display(u32),
     Wrong(Mistake),
 }
 
@@ -105,6 +107,7 @@ pub enum Command {
     Blockreadout,
     List,
     Maker,
+    Display,
 }
 
 // The numbers that lines have, and HEX.
@@ -133,7 +136,7 @@ pub enum Parameter {
 }
 
 // The commands, in the order of their words in `command_of`.
-const COMMANDS: [Command; 17] = [
+const COMMANDS: [Command; 18] = [
     Command::Sample,
     Command::Start,
     Command::Set,
@@ -151,6 +154,7 @@ const COMMANDS: [Command; 17] = [
     Command::Blockreadout,
     Command::List,
     Command::Maker,
+    Command::Display,
 ];
 
 // What the first word of a line says.
@@ -176,7 +180,7 @@ fn command_of(first: &[u8]) -> First
     ensures { λ r. ⌜ r ≡ commandOf (now (first .entry)) ⌝ }
 {
     let names =
-        b"sample start set reading reset register image date fleet profile record dataset readout block blockreadout list maker";
+        b"sample start set reading reset register image date fleet profile record dataset readout block blockreadout list maker display";
     for k in 0..COMMANDS.len() {
         if words::is(first, words::word(names, k)) {
             let command = COMMANDS[k];
@@ -419,6 +423,16 @@ fn with_hex(text: &[u8], k: usize, line: Line) -> Line
     line
 }
 
+fn display_line(text: &[u8]) -> Line
+    ensures { λ r. ⌜ r ≡ askedOf Command.Display (now (text .entry)) ⌝ }
+{
+    let room = number_at(text, 1, 4294967295);
+    if !room.ok {
+        return bad(Parameter::Room);
+    }
+    with_hex(text, 2, Line::Display(room.value))
+}
+
 // A readout, with HEX in word 5 or without.
 fn readout_line(hex: bool, text: &[u8]) -> Line
     ensures { λ r. ⌜ r ≡ readoutOf hex (now (text .entry)) ⌝ }
@@ -468,6 +482,7 @@ fn has_words(command: Command, count: usize) -> bool
         Command::Blockreadout => 7 <= count,
         Command::List => count == 6,
         Command::Maker => (count == 4) | (count == 5),
+        Command::Display => 4 <= count,
     }
 }
 
@@ -493,6 +508,7 @@ fn ask(command: Command, text: &[u8]) -> Line
         Command::Blockreadout => readout_line(true, text),
         Command::List => list_line(text),
         Command::Maker => maker_line(text),
+        Command::Display => display_line(text),
     }
 }
 

@@ -18,7 +18,7 @@ use Rattle.laws.specs.SignedTotal.{totalℤ}
 use Rattle.laws.proofs.If.{if-cases}
 use Rattle.laws.proofs.Masks.{bit-at, bit-zero}
 use Rattle.laws.proofs.Tables.{table-at}
-use Rattle.laws.proofs.Tests.{by-test}
+use Rattle.laws.proofs.Tests.{by-test, cond-both}
 use Rattle.laws.proofs.Total.{total-zero}
 use Rattle.laws.proofs.Counts.{count-cong}
 use Rattle.laws.proofs.SignedTotal.{totalℤ-cong}
@@ -69,11 +69,6 @@ has-any : (listed : Bool) (class : ℕ) → ltb (if listed then class else 4) 4 
 has-any true class = refl
 has-any false class = refl
 
--- and adds no value
-some-value : (listed awake : Bool) (value : ℤ) → cond (listed && awake) value (pos 0) ≡ cond listed (cond awake value (pos 0)) (pos 0)
-some-value true awake value = refl
-some-value false awake value = refl
-
 module _ (r : Recorder) (mask : ℕ) where
   -- the class of meter i: none where it is off the list
   class-is : (i : ℕ) → i < 32 → getD (classesOf (onlyMeters r mask)) i 0 ≡ (if bitAt mask i then getD (classesOf r) i 0 else 4)
@@ -100,7 +95,7 @@ module _ (r : Recorder) (mask : ℕ) where
       (λ i l.
       let value : ℤ = meterAt (r .state .meters) i .value in
       ap (λ (awake : Bool). cond awake value (pos 0)) (ap (λ class. eqb class 0) (class-is i l) ∙ has-class (bitAt mask i) (getD (classesOf r) i 0) 0 (omega arith))
-      ∙ some-value (bitAt mask i) (eqb (getD (classesOf r) i 0) 0) value)
+      ∙ cond-both (bitAt mask i) (eqb (getD (classesOf r) i 0) 0) value (pos 0))
 
 pub fleet-of-list : FleetOfList
 unfolding fleetOf onlyMeters

@@ -1,91 +1,26 @@
 -- A number written with the stated decimals and read back is the same number, also from the line of a data set (specs/Laws.antt, NumberReadBack and LineReadBack).
-use mathlib.Core.Path.{_≡_, refl, sym, ap, _∙_}
+use mathlib.Core.Path.{_≡_, refl, ap, _∙_}
 use mathlib.Core.Bool.{Bool, true, false}
 use mathlib.Core.List.{List, [], _∷_, _++_}
-use Prim.Native.Nat.{ℕ, zero, suc, _+_, _-_, _*_, _/_, _%_, _^_, _≤_, _<_, suc-le-suc, zero-le}
-use native.Mathlib.Nat.{pow-suc, div-div-eq-div-mul, mul-comm, lt-of-le-of-lt, div-le-self, div-one}
+use Prim.Native.Nat.{ℕ, suc, _+_, _-_, _/_, _^_, _≤_, _<_, zero-le}
+use native.Mathlib.Nat.{lt-of-le-of-lt, div-le-self}
 use native.Mathlib.Omega.{arith}
-use borrow.Author.Tests.{le-leb, ne-eqb, ltb-true, ltb-false, leb-true}
-use lib.Dec.{ltb, leb, lit<}
+use borrow.Author.Tests.{le-leb, ne-eqb, leb-true}
+use lib.Dec.{leb, lit<}
 use lib.IntN.{ℤ, pos, negsuc}
 use lib.ListN.{length, length-append}
 use lib.Seq.{take-append-seam}
-use Rattle.laws.specs.Decimals.{isDigit, valueFrom, digit, decimalIn}
+use Rattle.laws.specs.Decimals.{isDigit, valueFrom}
 use Rattle.laws.proofs.Decimals.{value-append}
+use Rattle.laws.proofs.Digits.{decimal-digits, decimal-some, decimal-most, decimal-value, last-digits, last-length, last-value}
 use Rattle.laws.proofs.Each.{each-append, each-so}
-use Rattle.laws.proofs.Tests.{by-test, and-both, and-left, and-right}
+use Rattle.laws.proofs.Tests.{and-left, and-right}
 use Rattle.readout.specs.DataSets.{AllOf, DataSet, IsDataSet, starred, lineOf, valueLetter}
-use Rattle.readout.specs.Numbers.{Decimal, signText, pointed, textOf, IsDecimal, wholeNumber, lastDigits, decimalFor, writtenWith}
+use Rattle.readout.specs.Numbers.{Decimal, signText, pointed, textOf, IsDecimal, wholeNumber, decimalFor, writtenWith}
 use Rattle.readout.specs.Answers.{lineNumber}
 use Rattle.readout.specs.Laws.{Written, NumberReadBack, LineReadBack}
 use Rattle.readout.proofs.Splits.{each-found, value-from}
 use Rattle.readout.proofs.Written.{each}
-
--- a digit as a letter
-digit-letter : (n : ℕ) → isDigit (digit n) ≡ true
-digit-letter n = and-both (leb 48 (digit n)) (leb (digit n) 57) (le-leb 48 (48 + n % 10) (omega arith)) (le-leb (48 + n % 10) 57 (omega arith))
-
--- one digit behind a number
-one-more : (m n : ℕ) → valueFrom m (digit n ∷ []) ≡ m * 10 + n % 10
-unfolding valueFrom
-one-more m n = let e : 48 + n % 10 - 48 ≡ n % 10 = omega arith in rw e
-
--- the number before the point: its digits, that there is one, and that they make it
-decimal-digits : (k n : ℕ) → AllOf isDigit (decimalIn k n)
-unfolding decimalIn
-decimal-digits zero n = tt
-decimal-digits (suc k) n =
-    by-test (ltb n 10) (λ t. rw t (digit-letter n, tt))
-    (λ t. rw t (each-append (λ b. isDigit b ≡ true) (decimalIn k (n / 10)) (digit n ∷ []) (decimal-digits k (n / 10)) (digit-letter n, tt)))
-
-decimal-some : (k n : ℕ) → 1 ≤ length (decimalIn (suc k) n)
-unfolding decimalIn
-decimal-some k n =
-    by-test (ltb n 10) (λ t. rw t (suc-le-suc zero-le))
-    (λ t. rw t (let l = length-append (decimalIn k (n / 10)) (digit n ∷ []) in omega arith))
-
-decimal-short : (k n : ℕ) → length (decimalIn k n) ≤ k
-unfolding decimalIn
-decimal-short zero n = zero-le
-decimal-short (suc k) n =
-    by-test (ltb n 10) (λ t. rw t (suc-le-suc zero-le))
-    (λ t. rw t (let l = length-append (decimalIn k (n / 10)) (digit n ∷ []) in let s = decimal-short k (n / 10) in omega arith))
-
--- a number of digits has some
-some-places : (k m : ℕ) → m < 10 ^ k → 1 ≤ m → 0 < k
-some-places zero m h l = absurd (let g : m < 1 = h in omega arith)
-some-places (suc k) m h l = suc-le-suc zero-le
-
-decimal-value : (k n : ℕ) → n < 10 ^ k → 0 < k → valueFrom 0 (decimalIn k n) ≡ n
-unfolding decimalIn
-decimal-value zero n h z = absurd (omega arith)
-decimal-value (suc k) n h z =
-    by-test (ltb n 10)
-    (λ t. let l = ltb-true n 10 t in rw t (one-more 0 n ∙ (omega arith)))
-    (λ t.
-    let l = ltb-false n 10 t in
-    let g : n < 10 ^ k * 10 = rw (pow-suc 10 k) at h in
-    let s : n / 10 < 10 ^ k = omega arith in
-    let k-some : 0 < k = some-places k (n / 10) s (omega arith) in
-    rw (t, value-append 0 (decimalIn k (n / 10)) (digit n ∷ []), decimal-value k (n / 10) s k-some, one-more (n / 10) n) (omega arith))
-
--- those behind the point
-last-digits : (k n : ℕ) → AllOf isDigit (lastDigits k n)
-unfolding lastDigits
-last-digits zero n = tt
-last-digits (suc k) n = each-append (λ b. isDigit b ≡ true) (lastDigits k (n / 10)) (digit n ∷ []) (last-digits k (n / 10)) (digit-letter n, tt)
-
-last-length : (k n : ℕ) → length (lastDigits k n) ≡ k
-unfolding lastDigits
-last-length zero n = refl
-last-length (suc k) n = let l = length-append (lastDigits k (n / 10)) (digit n ∷ []) in let s = last-length k (n / 10) in omega arith
-
-last-value : (k n : ℕ) → valueFrom (n / 10 ^ k) (lastDigits k n) ≡ n
-unfolding lastDigits valueFrom
-last-value zero n = div-one n
-last-value (suc k) n =
-    let e : n / 10 ^ suc k ≡ n / 10 / 10 ^ k = rw (pow-suc 10 k, mul-comm (10 ^ k) 10) (sym (div-div-eq-div-mul n 10 (10 ^ k))) in
-    rw (e, value-append (n / 10 / 10 ^ k) (lastDigits k (n / 10)) (digit n ∷ []), last-value k (n / 10)) (one-more (n / 10) n ∙ (omega arith))
 
 -- a number below ten digits, as it is written
 module _ (minus : Bool) (n d : ℕ) (small : n < 10 ^ 10) where
@@ -162,7 +97,7 @@ in-value minus n d l =
     let c = sign-length minus in
     let e = pointed-length (w .fraction) in
     let f = last-length d n in
-    let g = decimal-short 10 (n / 10 ^ d) in
+    let g = decimal-most 10 (n / 10 ^ d) in
     let h = decimal-some 9 (n / 10 ^ d) in
     record {
       letters =

@@ -3,12 +3,12 @@
 use mathlib.Core.Path.{_≡_}
 use mathlib.Core.Bool.{Bool, true, false, _&&_, _||_}
 use mathlib.Core.List.{List, [], _∷_, _++_}
-use Prim.Native.Nat.{ℕ, zero, suc, _+_, _*_, _/_, _%_, _^_, _≤_, _<_}
+use Prim.Native.Nat.{ℕ, suc, _+_, _*_, _/_, _%_, _^_, _≤_, _<_}
 use lib.Dec.{ltb, leb, eqb}
 use lib.IntN.{ℤ, pos, negsuc, negℤ}
 use lib.ListN.{length, getD, take, drop}
 use Rattle.laws.specs.Answers.{Answer, given, refused}
-use Rattle.laws.specs.Decimals.{isDigit, digits, valueFrom, digit, decimalIn}
+use Rattle.laws.specs.Decimals.{isDigit, digits, valueFrom, lastDigits, decimalIn}
 use Rattle.laws.specs.If.{if_then_else_}
 use Rattle.laws.specs.Leading.{leading}
 use Rattle.readout.specs.DataSets.{AllOf}
@@ -101,11 +101,6 @@ wholeNumber text decimals = if ltb 9 decimals then refused 18 0 else in32Bits (h
 abbrev pub Fits32 : ℤ → Type 0
 Fits32 (pos n) = n ≤ 2147483647
 Fits32 (negsuc n) = n < 2147483648
-
--- the last k digits of n
-unfoldable pub lastDigits : ℕ → ℕ → List ℕ
-lastDigits zero n = []
-lastDigits (suc k) n = lastDigits k (n / 10) ++ (digit n ∷ [])
 
 -- n with its last digits behind the point; a number of 32 bits has at most ten digits
 abbrev pub decimalFor : Bool → ℕ → ℕ → Decimal

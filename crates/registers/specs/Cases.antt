@@ -7,6 +7,7 @@ use lib.IntN.{pos}
 use lib.ListN.{getD, replicate}
 use Rattle.image.specs.Image.{blankProgram}
 use Rattle.settings.specs.declared.Config.{Config}
+use Rattle.sampling.specs.declared.Meter.{Meter}
 use Rattle.recorder.specs.Lists.{emptyList}
 use Rattle.recorder.specs.declared.Recorder.{Recorder}
 use Rattle.registers.specs.Fleet.{classAt}
@@ -26,9 +27,9 @@ oneMeter =
       registers = replicate 16 (record { sum = 255; rule = 255 });
     }
 
--- the recorder at a time, its meter heard with STATUS 6 at 1000
-abbrev heardAt1000 : ℕ → Recorder
-heardAt1000 clock =
+-- the recorder at a time, with what its meter sent
+abbrev pub oneHeard : ℕ → Meter → Recorder
+oneHeard clock meter =
     record {
       config = oneMeter;
       setup = record { slots = replicate 8 0; lists = replicate 3 emptyList };
@@ -40,10 +41,14 @@ heardAt1000 clock =
             first = 0;
             lines = replicate 16 (record { run = 0; rejected = 0; remainder = 0; units = 0 });
             bills = replicate 16 (record { amount = 0; closed = 0; stamp = 0; reset = false });
-            meters = record { read = true; stamp = 1000; value = pos 0; status = 6; seq = 0 } ∷ replicate 31 (record { read = false; stamp = 0; value = pos 0; status = 0; seq = 0 });
+            meters = meter ∷ replicate 31 (record { read = false; stamp = 0; value = pos 0; status = 0; seq = 0 });
             closed = record { state = 0; stamp = 0; values = replicate 16 (pos 0) };
           };
     }
+
+-- heard with STATUS 6 at 1000
+abbrev heardAt1000 : ℕ → Recorder
+heardAt1000 clock = oneHeard clock (record { read = true; stamp = 1000; value = pos 0; status = 6; seq = 0 })
 
 -- a case of the table: at a time the meter is of a class; at a time its STATUS reads
 pub data AgeCase : Type 0 where

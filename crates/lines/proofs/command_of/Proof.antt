@@ -16,7 +16,7 @@ abbrev Inv-loop : tie.InvT-loop
 Inv-loop first names k₀ k = commandOf first ≡ commandIn (drop k commands) first
 
 abbrev μ-loop : tie.MeasureT-loop
-μ-loop first names k₀ k = 17 - k
+μ-loop first names k₀ k = 18 - k
 
 loop-again : tie.Need-loop-again Inv-loop μ-loop
 unfolding letters words inFront commands

@@ -5,7 +5,8 @@ use borrow.Author.Needs.{needs}
 use borrow.Fn.Kinds.{In}
 use borrow.Fn.PlainCycle.{Measures, is, falls, and}
 use Rattle.answers.specs.Texts.{withBytes}
-use Rattle.answers.proofs.Laws.{split, decimal-short, decimal-long}
+use Rattle.laws.proofs.Digits.{decimal-short, decimal-long}
+use Rattle.answers.proofs.Laws.{split}
 use Rattle.answers.proofs.numbers.with_number.Reads as with-number
 use Rattle.answers.proofs.numbers.with_number.Kinds as with-number-kinds
 use Rattle.answers.proofs.numbers.+with_number.Lts-with_number as with-number-lts

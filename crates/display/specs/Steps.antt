@@ -68,7 +68,7 @@ pageFrom r format arguments s = partsOn r (meaning format) arguments s
 unfoldable pub pageBehind : Recorder → List ℕ → List ℕ → Screen → Answer (List ℕ)
 pageBehind r format arguments s = let first = specificationIn format in partsOn r (first .part ∷ partsBehind (first .bytes) format) arguments s
 
--- what a page says
+-- what became of a string: its 32 characters, or the refusal
 abbrev pub outcomeSaid : Outcome → List ℕ → Answer (List ℕ)
 outcomeSaid outcome.Whole cells = given cells
 outcomeSaid outcome.Format cells = refused 21 0

@@ -11,9 +11,7 @@ use Rattle.settings.specs.declared.Config.{Config}
 use Rattle.recorder.specs.History.{Call}
 use Rattle.recorder.specs.declared.Recorder.{Recorder}
 use Rattle.recorder.specs.declared.Setup.{Setup}
-use Rattle.registers.specs.Registers.{Group, groups, groupOf, registersOf, contentsOf, RegisterReply, refusal}
-use Rattle.registers.proofs.Groups.{each-found}
-use Rattle.registers.proofs.Laws.{bytes-as-table}
+use Rattle.registers.specs.Registers.{Group, groupOf, registersOf, RegisterReply, refusal}
 use Rattle.display.specs.Fields.{fieldGiven, fieldOf, bytesGiven, readBy}
 use Rattle.display.specs.Formats.{meaning}
 use Rattle.display.specs.Displays.{Mark, displayed, displayWith, displayReply}
@@ -31,7 +29,7 @@ use Rattle.demands.specs.Display.{readByAccount, DisplayOfHistory, Displ
 use Rattle.demands.proofs.Levels.{recorder-is}
 use Rattle.demands.proofs.Makers.{operator-by-account}
 use Rattle.demands.proofs.Profile.{reaches}
-use Rattle.demands.proofs.Replies.{readable-is, short, by-line}
+use Rattle.demands.proofs.Replies.{readable-is, long, by-line}
 use Rattle.demands.proofs.Shown.{spelled, contents-are}
 
 module _ (setup : Setup) (lent : ℕ) (c : Config) (accepted : Accepted c) (time : ℕ) (calls : List Call) where
@@ -42,18 +40,18 @@ module _ (setup : Setup) (lent : ℕ) (c : Config) (accepted : Accepted c) (time
   a = accountOf c time calls
 
   -- the bytes that the account shows are as many as the register has
-  long : (group i : ℕ) (g : Group) → groupOf group ≡ given g → i < g .registers → (length (shown c a group i) ≡ g .bytes) × (leb (g .bytes) 13 ≡ true)
-  long group i g found low =
+  shown-long : (group i : ℕ) (g : Group) → groupOf group ≡ given g → i < g .registers → (length (shown c a group i) ≡ g .bytes) × (leb (g .bytes) 13 ≡ true)
+  shown-long group i g found low =
       let own : Recorder = spelled setup (r .profile) c a in
       let in-group : i < registersOf group = rw found low in
-      let holds : length (contentsOf own group i) ≡ g .bytes = rw found (each-found (λ x. (y : Recorder) (k : ℕ) → length (x .holds y k) ≡ x .bytes) groups group g found bytes-as-table own i) in
-      (ap length (sym (contents-are setup (r .profile) c a group i in-group)) ∙ holds, each-found (λ x. leb (x .bytes) 13 ≡ true) groups group g found short)
+      let held = long own group i g found in
+      (ap length (sym (contents-are setup (r .profile) c a group i in-group)) ∙ held .0, held .1)
 
   same-field : (group register field : ℕ) → fieldOf (readBy r) group register field ≡ fieldOf (readByAccount c a) group register field
   unfolding readBy
   same-field group register field =
       ap (λ (x : RegisterReply). fieldGiven group field (bytesGiven (x .answer) (x .buffer))) (operator-by-account setup lent c accepted time calls group register (replicate 13 0))
-      ∙ by-line (groupOf group) c (shown c a group register) group register field (long group register)
+      ∙ by-line (groupOf group) c (shown c a group register) group register field (shown-long group register)
       ∙ ap (λ (b : Bool). fieldGiven group field (if b then given (shown c a group register) else refused 22 0)) (sym (readable-is c group register))
 
   shows : (format arguments buffer : List ℕ) → displayReply r format arguments buffer ≡ displayWith (a .time .second) (readByAccount c a) format arguments buffer

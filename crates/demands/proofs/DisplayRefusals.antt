@@ -3,10 +3,10 @@ use mathlib.Core.Path.{_≡_, refl, sym, ap, _∙_}
 use mathlib.Core.Bool.{Bool, true, true≢false}
 use mathlib.Core.List.{List, [], _∷_, _++_, append-assoc}
 use mathlib.Core.Logic.{_⊎_, inl, inr, ⊎-elim}
-use Prim.Native.Nat.{ℕ, zero, suc, _+_, _*_, _<_}
+use Prim.Native.Nat.{ℕ, zero, suc, _+_, _*_}
 use native.Mathlib.Omega.{arith}
 use borrow.Author.Tests.{ltb-true, ltb-false, lt-ltb}
-use lib.Dec.{ltb, leb}
+use lib.Dec.{ltb}
 use lib.ListN.{length, getD, drop, replicate}
 use lib.Seq.{drop-drop}
 use Rattle.laws.specs.Answers.{Answer, given, refused}
@@ -16,9 +16,8 @@ use Rattle.laws.proofs.Tests.{by-test}
 use Rattle.calendar.specs.Moments.{momentOf}
 use Rattle.settings.specs.declared.Config.{Config}
 use Rattle.recorder.specs.declared.Recorder.{Recorder}
-use Rattle.registers.specs.Registers.{Group, groups, groupOf, contentsOf, RegisterReply, registerReply}
-use Rattle.registers.proofs.Groups.{is-given, each-found}
-use Rattle.registers.proofs.Laws.{bytes-as-table}
+use Rattle.registers.specs.Registers.{groupOf, contentsOf, RegisterReply, registerReply}
+use Rattle.registers.proofs.Groups.{is-given}
 use Rattle.display.specs.Formats.{FormatPart, letter, lineBreak, theDate, theTime, number, badFormat, meaning}
 use Rattle.display.specs.Written.{Writes, NoBreak, WrittenAs}
 use Rattle.display.specs.Fields.{fieldBytes, fieldGiven, fieldOf, argumentOf, bytesGiven, readBy}
@@ -30,7 +29,7 @@ use Rattle.display.proofs.Laws.{arguments-in-order}
 use Rattle.display.proofs.Registered.{field-there, field-past}
 use Rattle.demands.specs.Demand1.{at, Ordered, ReadableField, AllReadable, FormatFirst, ArgumentFirst, displayRefusals}
 use Rattle.demands.specs.Shown.{readable}
-use Rattle.demands.proofs.Replies.{reply-with, readable-is, short, by-line}
+use Rattle.demands.proofs.Replies.{reply-with, readable-is, long, by-line}
 
 -- Argument bytes
 
@@ -54,19 +53,13 @@ all-more c arguments n here all (suc k) low = rw (← rest-of k arguments) (all 
 module _ (r : Recorder) where
   -- What can be read
 
-  -- a register holds as many bytes as the table says, and no more than 13
-  long : (group i : ℕ) (g : Group) → groupOf group ≡ given g → i < g .registers → (length (contentsOf r group i) ≡ g .bytes) × (leb (g .bytes) 13 ≡ true)
-  long group i g found low =
-      let holds : length (contentsOf r group i) ≡ g .bytes = rw found (each-found (λ x. (y : Recorder) (k : ℕ) → length (x .holds y k) ≡ x .bytes) groups group g found bytes-as-table r i) in
-      (holds, each-found (λ x. leb (x .bytes) 13 ≡ true) groups group g found short)
-
   -- a field of a recorder: that of what its register holds, where it can be read
   field-is : (group register field : ℕ)
       → fieldOf (readBy r) group register field ≡ fieldGiven group field (if readable (r .config) group register then given (contentsOf r group register) else refused 22 0)
   unfolding readBy registerReply
   field-is group register field =
       ap (λ (x : RegisterReply). fieldGiven group field (bytesGiven (x .answer) (x .buffer))) (reply-with (groupOf group) r register (replicate 13 0))
-      ∙ by-line (groupOf group) (r .config) (contentsOf r group register) group register field (long group register)
+      ∙ by-line (groupOf group) (r .config) (contentsOf r group register) group register field (λ g found low. long r group register g found)
       ∙ ap (λ (b : Bool). fieldGiven group field (if b then given (contentsOf r group register) else refused 22 0)) (sym (readable-is (r .config) group register))
 
   -- three bytes name a readable field, and it is given; or they name none, and are refused

@@ -13,7 +13,9 @@ use Rattle.laws.specs.If.{if_then_else_}
 use Rattle.laws.proofs.Tests.{by-test}
 use Rattle.settings.specs.declared.Config.{Config}
 use Rattle.recorder.specs.declared.Recorder.{Recorder}
-use Rattle.registers.specs.Registers.{Group, groups, lookUp, groupOf, heldBy, RegisterReply, refusal, registerRead, replyOf}
+use Rattle.registers.specs.Registers.{Group, groups, lookUp, groupOf, heldBy, contentsOf, RegisterReply, refusal, registerRead, replyOf}
+use Rattle.registers.proofs.Groups.{each-found}
+use Rattle.registers.proofs.Laws.{held-long}
 use Rattle.display.specs.Fields.{fieldGiven, bytesGiven}
 use Rattle.demands.specs.Shown.{readable}
 
@@ -73,9 +75,13 @@ readable-is c group i =
 -- What is read
 
 -- no register has more than 13 bytes
-pub short : Each (λ g. leb (g .bytes) 13 ≡ true) groups
+short : Each (λ g. leb (g .bytes) 13 ≡ true) groups
 unfolding groups
 short = (refl, (refl, (refl, (refl, (refl, (refl, (refl, (refl, (refl, tt)))))))))
+
+-- and each holds as many as the table says
+pub long : (r : Recorder) (group i : ℕ) (g : Group) → groupOf group ≡ given g → (length (contentsOf r group i) ≡ g .bytes) × (leb (g .bytes) 13 ≡ true)
+long r group i g found = (rw found (held-long group g found r i), each-found (λ x. leb (x .bytes) 13 ≡ true) groups group g found short)
 
 -- a field of the reply to a request, by the bytes that its register holds
 pub by-line : (l : Answer Group) (c : Config) (bytes : List ℕ) (group i field : ℕ)

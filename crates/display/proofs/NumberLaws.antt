@@ -31,7 +31,7 @@ use Rattle.display.specs.declared.formats.Form.{Form}
 use Rattle.display.proofs.Numerals.{fraction-length}
 use Rattle.display.proofs.Registered.{fields-fill}
 
--- so no zero is in front but a single one
+-- in decimal no zero is in front but a single one
 no-zero-in-front : (n : ℕ) → n < 10 ^ 20 → NoZeroInFront (decimalOf n)
 unfolding decimalOf decimalIn
 no-zero-in-front n h =

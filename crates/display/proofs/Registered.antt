@@ -1,12 +1,12 @@
 -- Laws of the fields of registers (specs/Fields.antt): they lie within the bytes that a register request gives.
 use mathlib.Core.Path.{_≡_, refl, sym, ap, _∙_}
-use mathlib.Core.Bool.{true, false, true≢false}
+use mathlib.Core.Bool.{Bool, true, false, true≢false, _&&_}
 use mathlib.Core.List.{List, [], _∷_, _++_}
 use Prim.Native.Nat.{ℕ, zero, suc, _+_, _-_, _^_, _≤_, _<_}
 use native.Mathlib.Nat.{not-suc-le-zero}
 use native.Mathlib.Omega.{arith}
-use borrow.Author.Tests.{eqb-true, ne-eqb, leb-true}
-use lib.Dec.{eqb, leb}
+use borrow.Author.Tests.{eqb-true, ne-eqb, leb-true, ltb-true, ltb-false}
+use lib.Dec.{eqb, leb, ltb}
 use lib.ListN.{length, getD, take, drop, replicate, List·getD-eq-default}
 use lib.Seq.{getD-drop, drop-append-add}
 use types.Run.{OneOf}
@@ -19,8 +19,9 @@ use Rattle.laws.specs.Tables.{table}
 use Rattle.laws.specs.Total.{total}
 use Rattle.laws.proofs.Answers.{by-answer}
 use Rattle.laws.proofs.Bytes.{length-bytesOf, le-bytesOf, le-take}
+use Rattle.laws.proofs.If.{if-cases}
 use Rattle.laws.proofs.Tables.{table-at}
-use Rattle.laws.proofs.Tests.{by-test}
+use Rattle.laws.proofs.Tests.{by-test, and-left, and-right}
 use Rattle.laws.proofs.Total.{total-more, total-cong, total-grows, total-first}
 use Rattle.recorder.specs.declared.Recorder.{Recorder}
 use Rattle.registers.specs.Registers.{Group, groups, lookUp, groupOf, RegisterReply, registerSaid, replied, registerReply}
@@ -28,7 +29,7 @@ use Rattle.registers.specs.declared.RegisterAnswer.{RegisterAnswer}
 use Rattle.registers.specs.declared.RegisterAnswer.the-variants.{Given, NoGroup, NoRegister, NotFitted, NoRoom}
 use Rattle.registers.proofs.RegisterAnswer as register-answer
 use Rattle.registers.proofs.Groups.{is-given, the, each-found}
-use Rattle.registers.proofs.Laws.{bytes-as-table, given-first}
+use Rattle.registers.proofs.Laws.{held-long, given-first}
 use Rattle.display.specs.Fields.{fieldBytes, isSigned, startOf, signedValue, fieldGiven, fieldOf, bytesGiven, readBy}
 use Rattle.display.specs.Laws.{oneAfterAnother, FieldsInOrder}
 
@@ -53,42 +54,60 @@ pub fields-fill : Each Fill groups
 unfolding groups fieldBytes total
 fields-fill = (refl, (refl, (refl, (refl, (refl, (refl, (refl, (refl, (refl, tt)))))))))
 
--- and none has more than 8 bytes
-few : (l : List ℕ) → Each (λ n. leb n 8 ≡ true) l → (k : ℕ) → getD l k 0 ≤ 8
-few [] h k = omega arith
-few (n ∷ l) h zero = leb-true n 8 (h .0)
-few (n ∷ l) h (suc k) = few l (h .1) k
+-- at most six fields, each of 1 to 8 bytes: a test that is computed for each list
+abbrev sized : List ℕ → Bool
+sized [] = true
+sized (n ∷ l) = leb 1 n && (leb n 8 && sized l)
 
-abbrev Few : Group → Type 0
-Few g = Each (λ n. leb n 8 ≡ true) (fieldBytes (g .number))
+abbrev sixSized : List ℕ → Bool
+sixSized l = leb (length l) 6 && sized l
 
-fields-few : Each Few groups
-unfolding groups fieldBytes
-fields-few = (
-  (refl, (refl, (refl, (refl, tt)))),
-  (
-    (refl, tt),
-    (
-      (refl, tt),
-      (
-        (refl, tt),
-        (
-          (refl, (refl, (refl, tt))),
-          (
-            (refl, (refl, (refl, (refl, tt)))),
-            (
-              (refl, (refl, tt)),
-              (
-                (refl, (refl, (refl, (refl, (refl, (refl, tt)))))),
-                ((refl, (refl, tt)), tt),
-              ),
-            ),
-          ),
-        ),
-      ),
-    ),
-  ),
-)
+all-sized : (group : ℕ) → sixSized (fieldBytes group) ≡ true
+unfolding fieldBytes
+all-sized group =
+    let P : List ℕ → Type 0 = λ l. sixSized l ≡ true in
+    if-cases P (eqb group 82) (λ t. refl)
+    (λ t.
+    if-cases P (eqb group 89) (λ t. refl)
+    (λ t.
+    if-cases P (eqb group 90) (λ t. refl)
+    (λ t.
+    if-cases P (eqb group 91) (λ t. refl)
+    (λ t.
+    if-cases P (eqb group 201) (λ t. refl)
+    (λ t.
+    if-cases P (eqb group 202) (λ t. refl)
+    (λ t. if-cases P (eqb group 203) (λ t. refl) (λ t. if-cases P (eqb group 204) (λ t. refl) (λ t. if-cases P (eqb group 206) (λ t. refl) (λ t. refl)))))))))
+
+-- no register has a seventh field
+pub no-seventh : (group k : ℕ) → 6 ≤ k → widths group k ≡ 0
+no-seventh group k h =
+    let six = leb-true (length (fieldBytes group)) 6 (and-left (leb (length (fieldBytes group)) 6) (sized (fieldBytes group)) (all-sized group)) in
+    List·getD-eq-default (fieldBytes group) 0 (omega arith)
+
+-- a field that is there has 1 to 8 bytes
+sized-at : (l : List ℕ) → sized l ≡ true → (k : ℕ) → k < length l → (1 ≤ getD l k 0) × (getD l k 0 ≤ 8)
+sized-at [] h k low = absurd (not-suc-le-zero low)
+sized-at (n ∷ l) h zero low =
+    (leb-true 1 n (and-left (leb 1 n) (leb n 8 && sized l) h), leb-true n 8 (and-left (leb n 8) (sized l) (and-right (leb 1 n) (leb n 8 && sized l) h)))
+sized-at (n ∷ l) h (suc k) low = sized-at l (and-right (leb n 8) (sized l) (and-right (leb 1 n) (leb n 8 && sized l) h)) k (omega arith)
+
+field-sized : (group k : ℕ) → k < length (fieldBytes group) → (1 ≤ widths group k) × (widths group k ≤ 8)
+field-sized group k low =
+    sized-at (fieldBytes group) (and-right (leb (length (fieldBytes group)) 6) (sized (fieldBytes group)) (all-sized group)) k low
+
+pub field-there : (group k : ℕ) → k < length (fieldBytes group) → eqb (widths group k) 0 ≡ false
+field-there group k low = let s = field-sized group k low .0 in ne-eqb (widths group k) 0 (λ e. omega arith)
+
+-- any other has none
+pub field-past : (group k : ℕ) → length (fieldBytes group) ≤ k → widths group k ≡ 0
+field-past group k h = List·getD-eq-default (fieldBytes group) 0 h
+
+-- so none has more than 8
+pub field-few : (group k : ℕ) → widths group k ≤ 8
+field-few group k =
+    by-test (ltb k (length (fieldBytes group))) (λ t. field-sized group k (ltb-true k (length (fieldBytes group)) t) .1)
+    (λ t. let none = field-past group k (ltb-false k (length (fieldBytes group)) t) in omega arith)
 
 -- the line of the table that a request is answered by
 record Line (group m : ℕ) : Type 0 where
@@ -105,7 +124,7 @@ module _ (r : Recorder) (group register : ℕ) (buffer : List ℕ) (m : ℕ) (e 
       (λ g is.
       let first = given-first r group register buffer m e in
       let held : length (g .holds r register) ≡ m = rw is at (first .0) in
-      record { line = g; is = is; long = sym (each-found (λ x. (r : Recorder) (i : ℕ) → length (x .holds r i) ≡ x .bytes) groups group g is bytes-as-table r register) ∙ held })
+      record { line = g; is = is; long = sym (held-long group g is r register) ∙ held })
       (λ n offset is. absurd (true≢false (sym (ap is-given (rw is at e)))))
 
   field-within : (k : ℕ) → k < 6 → startOf group k + widths group k ≤ m
@@ -116,12 +135,6 @@ module _ (r : Recorder) (group register : ℕ) (buffer : List ℕ) (m : ℕ) (e 
       let grows = total-grows (widths group) (k + 1) 6 (omega arith) in
       let more = total-more k (widths group) in
       omega arith
-
-  field-few : (k : ℕ) → widths group k ≤ 8
-  field-few k =
-      let l = line-of in
-      let same = found-number groups group (l .line) (l .is) in
-      rw same (few (fieldBytes (l .line .number)) (each-found Few groups group (l .line) (l .is) fields-few) k)
 
   given-room : m ≤ length buffer
   given-room = given-first r group register buffer m e .1
@@ -143,65 +156,6 @@ no-field group field m bytes e = rw e refl
 a-field : (group field m : ℕ) (bytes : List ℕ) → (widths group field ≡ 0 → ⊥) → startOf group field + widths group field ≤ m
     → fieldGiven group field (given (take m bytes)) ≡ given (signedValue (isSigned group field) (widths group field) (le (widths group field) (drop (startOf group field) bytes)))
 a-field group field m bytes some within = rw (ne-eqb (widths group field) 0 some, le-take (widths group field) (startOf group field) m bytes within) refl
-
--- no register has a seventh field
-at-most-six : (group : ℕ) → length (fieldBytes group) ≤ 6
-unfolding fieldBytes
-at-most-six group =
-    by-test (eqb group 82) (λ t. rw t (omega arith))
-    (λ a.
-    by-test (eqb group 89) (λ t. rw (a, t) (omega arith))
-    (λ b.
-    by-test (eqb group 90) (λ t. rw (a, b, t) (omega arith))
-    (λ c.
-    by-test (eqb group 91) (λ t. rw (a, b, c, t) (omega arith))
-    (λ d.
-    by-test (eqb group 201) (λ t. rw (a, b, c, d, t) (omega arith))
-    (λ e.
-    by-test (eqb group 202) (λ t. rw (a, b, c, d, e, t) (omega arith))
-    (λ f.
-    by-test (eqb group 203) (λ t. rw (a, b, c, d, e, f, t) (omega arith))
-    (λ g.
-    by-test (eqb group 204) (λ t. rw (a, b, c, d, e, f, g, t) (omega arith))
-    (λ h. by-test (eqb group 206) (λ t. rw (a, b, c, d, e, f, g, h, t) (omega arith)) (λ i. rw (a, b, c, d, e, f, g, h, i) (omega arith))))))))))
-
-pub no-seventh : (group k : ℕ) → 6 ≤ k → widths group k ≡ 0
-no-seventh group k h = List·getD-eq-default (fieldBytes group) 0 (omega (arith, at-most-six group))
-
--- no register has a field of no bytes
-all-some : (group : ℕ) → Each (λ n. eqb n 0 ≡ false) (fieldBytes group)
-unfolding fieldBytes
-all-some group =
-    by-test (eqb group 82) (λ t. rw t (refl, (refl, (refl, (refl, tt)))))
-    (λ a.
-    by-test (eqb group 89) (λ t. rw (a, t) (refl, tt))
-    (λ b.
-    by-test (eqb group 90) (λ t. rw (a, b, t) (refl, tt))
-    (λ c.
-    by-test (eqb group 91) (λ t. rw (a, b, c, t) (refl, tt))
-    (λ d.
-    by-test (eqb group 201) (λ t. rw (a, b, c, d, t) (refl, (refl, (refl, tt))))
-    (λ e.
-    by-test (eqb group 202) (λ t. rw (a, b, c, d, e, t) (refl, (refl, (refl, (refl, tt)))))
-    (λ f.
-    by-test (eqb group 203) (λ t. rw (a, b, c, d, e, f, t) (refl, (refl, tt)))
-    (λ g.
-    by-test (eqb group 204) (λ t. rw (a, b, c, d, e, f, g, t) (refl, (refl, (refl, (refl, (refl, (refl, tt)))))))
-    (λ h. by-test (eqb group 206) (λ t. rw (a, b, c, d, e, f, g, h, t) (refl, (refl, tt))) (λ i. rw (a, b, c, d, e, f, g, h, i) tt)))))))))
-
--- what holds of each number of a list holds of one in it
-some-at : (l : List ℕ) → Each (λ n. eqb n 0 ≡ false) l → (k : ℕ) → k < length l → eqb (getD l k 0) 0 ≡ false
-some-at [] h k low = absurd (omega arith)
-some-at (n ∷ l) h zero low = h .0
-some-at (n ∷ l) h (suc k) low = some-at l (h .1) k (omega arith)
-
--- a field that its group has, has bytes
-pub field-there : (group k : ℕ) → k < length (fieldBytes group) → eqb (widths group k) 0 ≡ false
-field-there group k low = some-at (fieldBytes group) (all-some group) k low
-
--- any other has none
-pub field-past : (group k : ℕ) → length (fieldBytes group) ≤ k → widths group k ≡ 0
-field-past group k h = List·getD-eq-default (fieldBytes group) 0 h
 
 -- A field by what the register request answered
 
@@ -228,9 +182,6 @@ module _ (r : Recorder) (group register : ℕ) (x : RegisterAnswer) (bytes : Lis
         let within = field-within r group register (replicate 13 0) m was-given field low in
         let room : m ≤ 13 = given-room r group register (replicate 13 0) m was-given in
         omega arith
-
-    pub field-short : widths group field ≤ 8
-    field-short = field-few r group register (replicate 13 0) m was-given field
 
     pub field-some : field < 6 → (widths group field ≡ 0 → ⊥)
         → given (signedValue (isSigned group field) (widths group field) (le (widths group field) (drop (startOf group field) bytes))) ≡ fieldOf (readBy r) group register field

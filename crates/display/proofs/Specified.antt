@@ -75,11 +75,11 @@ module _ (l : List ℕ) (from : ℕ) where
       (rw (at point-at point (omega arith), at (point-at + 1) (point + 1) (omega arith))
       (rw (at unit-at unit (omega arith)) (rw (at (unit-at + bit shifted) last (omega arith), size) refl))))
 
--- a specification has no more bytes than are left
 -- the test of a number's specification from the beginning of a string
 abbrev pub whole : List ℕ → Bool
 whole s = eqb (getD s (last s 0) 0) 70 && (not (pointed s 0) || isDigit (digit s 0))
 
+-- a specification has no more bytes than are left
 number-most : (s : List ℕ) → numberSpecified s .bytes ≤ length s
 number-most s =
     rw (number-from s 0)

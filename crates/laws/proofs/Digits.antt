@@ -168,7 +168,7 @@ pub decimal-all : (n : ℕ) → Each (λ b. isDigit b ≡ true) (decimalOf n)
 unfolding decimalOf
 decimal-all n = decimal-digits 20 n
 
--- all-zeros one after another
+-- zeros one after another
 all-zeros : (k : ℕ) → Each (λ (b : ℕ). b ≡ 48) (replicate k 48)
 all-zeros zero = tt
 all-zeros (suc k) = (refl, all-zeros k)

@@ -63,6 +63,10 @@ bytes-as-table = (
   ),
 )
 
+-- a register that the table has holds as many bytes as its line says
+pub held-long : (group : ℕ) (g : Group) → groupOf group ≡ given g → (r : Recorder) (i : ℕ) → length (g .holds r i) ≡ g .bytes
+held-long group g found = each-found (λ x. (r : Recorder) (i : ℕ) → length (x .holds r i) ≡ x .bytes) groups group g found bytes-as-table
+
 -- a claim on replies, by the way that a request goes
 by-way : (P : RegisterReply → Type 0) (g : Group) (r : Recorder) (i : ℕ) (buffer : List ℕ)
     → P (refusal 12 buffer) → P (refusal 8 buffer) → P (refusal 13 buffer)
@@ -97,7 +101,7 @@ given-first r group register buffer n = first (groupOf group) refl
         (λ e. absurd (true≢false (sym (ap is-given e)))) (λ e. absurd (true≢false (sym (ap is-given e)))) (λ e. absurd (true≢false (sym (ap is-given e))))
         (λ room e.
         let same : g .bytes ≡ n = ap (the 0) e in
-        (each-found (λ g. (r : Recorder) (i : ℕ) → length (g .holds r i) ≡ g .bytes) groups group g q bytes-as-table r register ∙ same, rw (← same) (leb-true _ _ room), rw same))
+        (held-long group g q r register ∙ same, rw (← same) (leb-true _ _ room), rw same))
 
 -- the STATUS byte of a meter that is not awake is odd
 serial-mark : (m : Meter) (class : ℕ) (rest : List ℕ) → (class ≡ 0 → ⊥) → getD (serialBytes m class ++ rest) 8 0 % 2 ≡ 1

@@ -10,7 +10,7 @@ use Rattle.recorder.specs.declared.Recorder.{Recorder}
 use Rattle.registers.specs.Registers.{groups, registerReply, groupOf, heldBy, layoutSaid, replied}
 use Rattle.registers.specs.declared.RegisterAnswer.the-variants.{Given}
 use Rattle.registers.proofs.Groups.{Found, found, not-found, each-found, reply-12, reply-8, reply-13, reply-read, given-out}
-use Rattle.registers.proofs.Laws.{bytes-as-table}
+use Rattle.registers.proofs.Laws.{held-long}
 use Rattle.registers.proofs.read_register.Statement.{statement}
 use Rattle.registers.proofs.read_register.Tie as tie
 
@@ -24,8 +24,8 @@ unfolding groups
 few n found = rw (← found .long) (each-found (λ g. g .bytes ≤ 13) groups n _ (found .is) (search needs))
 
 -- a register holds as many bytes as its layout says
-held-long : (n : ℕ) {registers bytes : ℕ} → Found (groupOf n) registers bytes → (r : Recorder) (i : ℕ) → length (heldBy (groupOf n) r i) ≡ bytes
-held-long n found r i = rw (found .is, ← found .long) (each-found (λ g. (r : Recorder) (i : ℕ) → length (g .holds r i) ≡ g .bytes) groups n _ (found .is) bytes-as-table r i)
+held-as-said : (n : ℕ) {registers bytes : ℕ} → Found (groupOf n) registers bytes → (r : Recorder) (i : ℕ) → length (heldBy (groupOf n) r i) ≡ bytes
+held-as-said n found r i = rw (found .is, ← found .long) (held-long n _ (found .is) r i)
 
 returns : tie.Need-returns
 unfolding registerReply
@@ -68,7 +68,7 @@ returns-5 c =
     let in-use = c .before .before .before .before .before .before .before in
     let found = line (in-use .before .before .before .before) in
     let a = in-use .before .before .before .before .before .before .before .before .args in
-    let all = held-long (a .group) found (a .recorder) (a .register) in
+    let all = held-as-said (a .group) found (a .recorder) (a .register) in
     ap (replied (Given _)) (given-out _ (heldBy (groupOf (a .group)) (a .recorder) (a .register)) (now (a .buf)) all (c .before .before .before .contents .ensures) (c .before .before .give .ensures))
     ∙ reply-read found _ _ _ (in-use .before .before .if1 .left) (ap not (sym (in-use .is-fitted .ensures)) ∙ c .before .before .before .before .before .before .if2 .left) (c .before .before .before .before .before .if3 .left)
 

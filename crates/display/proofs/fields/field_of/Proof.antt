@@ -5,7 +5,7 @@ use native.Mathlib.Omega.{arith}
 use borrow.Author.Needs.{needs}
 use lib.ListN.{getD}
 use Rattle.display.specs.Fields.{startOf}
-use Rattle.display.proofs.Registered.{widths, field-refused, field-none, field-fits, field-short, field-some, no-seventh, start-by-table, bytes-by-table}
+use Rattle.display.proofs.Registered.{widths, field-refused, field-none, field-fits, field-few, field-some, no-seventh, start-by-table, bytes-by-table}
 use Rattle.display.proofs.fields.field_of.Statement.{statement}
 use Rattle.display.proofs.fields.field_of.Tie as tie
 
@@ -52,18 +52,15 @@ number-in-requires c κs =
     let a = b .before .before .before .args in
     let e = b .before .read-register .ensures in
     let told = t .enum-told .given .1 in
-    rw (start c, size f) (field-fits (a .recorder) (a .group) (a .register) _ _ e (a .field) _ told (f .before .if1 .left), field-short (a .recorder) (a .group) (a .register) _ _ e (a .field) _ told)
+    rw (start c, size f) (field-fits (a .recorder) (a .group) (a .register) _ _ e (a .field) _ told (f .before .if1 .left), field-few (a .group) (a .field))
 
 value-of-requires : tie.Need-value-of-requires
 value-of-requires c κs =
     let n = c .before in
     let s = n .before in
     let f = s .before .before in
-    let t = f .before .before in
-    let b = t .before .before in
-    let a = b .before .before .before .args in
-    let e = b .before .read-register .ensures in
-    let few : getD (f .field-bytes .result) (a .field) 0 ≤ 8 = rw (size f) (field-short (a .recorder) (a .group) (a .register) _ _ e (a .field) _ (t .enum-told .given .1)) in
+    let a = f .before .before .before .before .before .before .before .args in
+    let few : getD (f .field-bytes .result) (a .field) 0 ≤ 8 = rw (size f) (field-few (a .group) (a .field)) in
     (omega (arith, s .before .if2 .left), few, n .number-in .ensures .1)
 
 returns-4 : tie.Need-returns-4

@@ -12,7 +12,7 @@ ghost use mathlib.Core.Path.{_≡_};
 ghost use mathlib.Core.List.{_++_};
 ghost use Prim.Native.Nat.{_<_, _≤_};
 ghost use lib.ListN.{length, take, drop};
-ghost use Rattle.registers.specs.Registers.{layoutSaid, layoutOf, registersOf, fitted, replied, registerReply};
+ghost use Rattle.registers.specs.Registers.{layoutSaid, layoutOf, registersOf, fitted, registerSaid, replied, registerReply};
 
 // The answer to a request: how many bytes were given, or the refusal.
 pub enum RegisterAnswer {

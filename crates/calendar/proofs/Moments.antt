@@ -17,7 +17,7 @@ use Rattle.calendar.specs.Dates.{leapYear, monthLength, yearLength, dayN
 use Rattle.calendar.specs.Moments.{DateExists, dayOf, IsMoment, yearDay, momentAt, momentOf, onDate, dayAfter}
 use Rattle.calendar.specs.Laws.{FoundIsMoment, MomentIsFound, OneMoment, NoDateExactly, DatedOrNot, AlwaysDated, OneDate, NextDay, SameMinute, SomeYear}
 use Rattle.calendar.specs.declared.Moment.{Moment}
-use Rattle.calendar.proofs.Months.{no-month, months-fill, year-is, year-below, left-below, month-is, no-year, has-days, year-begins, year-ends}
+use Rattle.calendar.proofs.Months.{no-month, few-days, months-fill, year-is, year-below, left-below, month-is, no-year, has-days, year-begins, year-ends}
 
 -- a day of a month of the clock's years exists
 exists : (y m d : ℕ) → 1970 ≤ y → y ≤ 2106 → 1 ≤ d → d ≤ monthLength y m → DateExists y m d
@@ -35,6 +35,10 @@ module _ (y m d : ℕ) (v : DateExists y m d) where
   -- its month is one of the twelve
   pub month-high : m ≤ 12
   month-high = by-test (ltb m 13) (λ t. omega (arith, ltb-true m 13 t)) (λ f. omega (arith, no-month y m (ltb-false m 13 f), day-low, day-high))
+
+  -- so it is at most the 31st
+  pub day-few : d ≤ 31
+  day-few = omega (arith, day-high, few-days y m month-high)
 
   -- the day lies in its year
   in-year : total m (monthLength y) + (d - 1) < yearLength (y - 1970)

@@ -31,6 +31,13 @@ has-days y m h l =
     by-test (eqb m 2 && leapYear y) (λ e. rw e (omega arith))
     (λ e. rw e (leb-true 1 _ (or-right _ _ (lt-leb m 0 h) (computed 13 (λ k. leb k 0 || leb 1 (getD (0 ∷ commonLengths) k 0)) refl m (omega arith)))))
 
+-- and none more than 31
+pub few-days : (y m : ℕ) → m ≤ 12 → monthLength y m ≤ 31
+unfolding monthLength first
+few-days y m l =
+    by-test (eqb m 2 && leapYear y) (λ e. rw e (omega arith))
+    (λ e. rw e (leb-true _ 31 (computed 13 (λ k. leb (getD (0 ∷ commonLengths) k 0) 31) refl m (omega arith))))
+
 -- no days are before January
 pub year-begins : (y : ℕ) → total 1 (monthLength y) ≡ 0
 unfolding total monthLength

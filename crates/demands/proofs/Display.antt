@@ -17,7 +17,7 @@ use Rattle.display.specs.Formats.{meaning}
 use Rattle.display.specs.Displays.{Mark, displayed, displayWith, displayReply}
 use Rattle.display.proofs.Grammar.{means-as-written}
 use Rattle.display.proofs.Registered.{fields-in-order}
-use Rattle.display.proofs.NumberLaws.{numbers-read, read-by-meters, fields-fill-all, signed-back, always-shown}
+use Rattle.display.proofs.NumberLaws.{numbers-read, read-by-meters, fields-fill-all, signed-back, dates-read}
 use Rattle.display.proofs.Laws.{shown-cong, arguments-in-order, only-two-lines, refused-display, shown-first}
 use Rattle.demands.specs.Account.{Account, accountOf}
 use Rattle.demands.specs.Starts.{Accepted}
@@ -81,7 +81,7 @@ cr-7 =
       fields = fields-fill-all;
       order = fields-in-order;
       signed = signed-back;
-      dates = always-shown;
+      dates = dates-read;
       arguments = arguments-in-order;
       lines = only-two-lines;
       refused-leaves = refused-display;

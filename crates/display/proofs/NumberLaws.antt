@@ -4,7 +4,7 @@ use mathlib.Core.Bool.{Bool, true, false, true≢false}
 use mathlib.Core.List.{List, [], _∷_, _++_, append-assoc}
 use mathlib.Core.Logic.{inl, inr}
 use Prim.Native.Nat.{ℕ, suc, _+_, _-_, _*_, _/_, _^_, _≤_, _<_, max}
-use native.Mathlib.Nat.{mul-one, lt-of-le-of-lt, lt-trans, div-le-self}
+use native.Mathlib.Nat.{mul-one, lt-of-le-of-lt, lt-trans, div-le-self, div-eq-of-lt}
 use native.Mathlib.Omega.{arith}
 use borrow.Author.Tests.{le-leb, lt-leb, ltb-false}
 use lib.Dec.{ltb, lit<}
@@ -20,11 +20,11 @@ use Rattle.laws.proofs.Digits.{front-digit, decimal-is, decimal-has, decimal-al
 use Rattle.laws.proofs.Each.{each-append}
 use Rattle.laws.proofs.If.{if-cases}
 use Rattle.laws.proofs.Tests.{by-test}
-use Rattle.calendar.proofs.Moments.{always-dated}
+use Rattle.calendar.proofs.Moments.{day-few, month-high, found-is-moment, always-dated}
 use Rattle.readout.specs.Numbers.{Decimal, signText, pointed, textOf, IsDecimal, Is, most}
 use Rattle.readout.proofs.Written.{each}
 use Rattle.display.specs.Fields.{signedValue}
-use Rattle.display.specs.Laws.{NoZeroInFront, Reads, NumbersRead, ReadByMeters, FieldsFill, apart, SignedBack, AlwaysShown}
+use Rattle.display.specs.Laws.{NoZeroInFront, Reads, NumbersRead, ReadByMeters, FieldsFill, apart, SignedBack, InDigits, Three, DatesRead}
 use Rattle.display.specs.Numbers.{wholeShown, fractionShown, writtenBy, paddingOf, numberShown}
 use Rattle.display.specs.declared.fields.Value.{Value}
 use Rattle.display.specs.declared.formats.Form.{Form}
@@ -180,13 +180,38 @@ signed-back = record { four = back w32 4 refl refl; eight = back w64 8 refl refl
 
 -- Dates and times
 
--- two digits, two more and k more, with a letter between them
-apart-length : (x y z k b : ℕ) → length (lastDigits 2 x ++ (b ∷ lastDigits 2 y ++ (b ∷ lastDigits k z))) ≡ k + 6
-apart-length x y z k b =
-    let last = b ∷ lastDigits k z in
-    omega (arith, length-append (lastDigits 2 x) (b ∷ lastDigits 2 y ++ last), length-append (lastDigits 2 y) last, last-length 2 x, last-length 2 y, last-length k z)
+-- a number that has at most k digits is what its last k digits are
+in-digits : (k n : ℕ) → n < 10 ^ k → InDigits k n (lastDigits k n)
+in-digits k n h =
+    let none : n / 10 ^ k ≡ 0 = div-eq-of-lt h in
+    record { many = last-length k n; digits = last-digits k n; is = ap (λ (m : ℕ). valueFrom m (lastDigits k n)) (sym none) ∙ last-value k n }
 
-pub always-shown : AlwaysShown
-always-shown t h =
+three : (between x y k z : ℕ) → x < 100 → y < 100 → z < 10 ^ k → Three between x y k z (lastDigits 2 x ++ (between ∷ lastDigits 2 y ++ (between ∷ lastDigits k z)))
+three between x y k z a b c =
+    record {
+      first = lastDigits 2 x;
+      second = lastDigits 2 y;
+      third = lastDigits k z;
+      split = refl;
+      is-first = in-digits 2 x a;
+      is-second = in-digits 2 y b;
+      is-third = in-digits k z c;
+    }
+
+pub dates-read : DatesRead
+dates-read t h =
     let (m, e) = always-dated t h in
-    rw (← e) (apart-length (m .day) (m .month) (m .year) 4 46, apart-length (m .hour) (m .minute) (m .second) 2 58)
+    let i = found-is-moment t m e in
+    let d = i .date in
+    let month = month-high (m .year) (m .month) (m .day) d in
+    let day = day-few (m .year) (m .month) (m .day) d in
+    let year = d .last-year in
+    let hour = i .hour in
+    let minute = i .minute in
+    let second = i .second in
+    record {
+      moment = m;
+      is = i;
+      date = rw (← e) (three 46 (m .day) (m .month) 4 (m .year) (omega arith) (omega arith) (omega arith));
+      time = rw (← e) (three 58 (m .hour) (m .minute) 2 (m .second) (omega arith) (omega arith) (omega arith));
+    }

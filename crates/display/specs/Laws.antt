@@ -10,10 +10,13 @@ use mir.Syntax.{w32, w64}
 use mir.Val.{SFits, ofZ}
 use Rattle.laws.specs.Answers.{Answer, given, refused}
 use Rattle.laws.specs.Bytes.{bytesOf}
+use Rattle.laws.specs.Decimals.{isDigit, valueFrom}
 use Rattle.laws.specs.Each.{Each}
 use Rattle.laws.specs.If.{if_then_else_}
 use Rattle.laws.specs.Total.{total}
-use Rattle.calendar.specs.Moments.{momentOf}
+use Rattle.calendar.specs.Moments.{IsMoment, momentOf}
+use Rattle.calendar.specs.declared.Moment.{Moment}
+use Rattle.readout.specs.DataSets.{AllOf}
 use Rattle.readout.specs.Numbers.{Decimal, textOf, IsDecimal, Is, signed, most, wholeNumber}
 use Rattle.registers.specs.Registers.{groups}
 use Rattle.display.specs.Formats.{FormatPart, letter, lineBreak, theDate, theTime, number, badFormat, meaning}
@@ -103,9 +106,32 @@ pub record SignedBack : Type 0 where
 
 -- Dates and times
 
--- each second of the clock shows a date of ten characters and a time of eight
-abbrev pub AlwaysShown : Type 0
-AlwaysShown = (t : ℕ) → t < 2 ^ 32 → (length (dateShown (momentOf t)) ≡ 10) × (length (timeShown (momentOf t)) ≡ 8)
+-- a number in exactly k digits
+pub record InDigits (k n : ℕ) (text : List ℕ) : Type 0 where
+  pub many : length text ≡ k
+  pub digits : AllOf isDigit text
+  pub is : valueFrom 0 text ≡ n
+
+-- three numbers with a letter between them: the first two have two digits, and the last has k
+pub record Three (between x y k z : ℕ) (shown : List ℕ) : Type 0 where
+  pub first : List ℕ
+  pub second : List ℕ
+  pub third : List ℕ
+  pub split : shown ≡ first ++ (between ∷ second ++ (between ∷ third))
+  pub is-first : InDigits 2 x first
+  pub is-second : InDigits 2 y second
+  pub is-third : InDigits k z third
+
+-- a second shows the date, with points, 46, and the time, with colons, 58, of its moment: the one that exists and counts to it
+pub record MomentShown (t : ℕ) : Type 0 where
+  pub moment : Moment
+  pub is : IsMoment t moment
+  pub date : Three 46 (moment .day) (moment .month) 4 (moment .year) (dateShown (momentOf t))
+  pub time : Three 58 (moment .hour) (moment .minute) 2 (moment .second) (timeShown (momentOf t))
+
+-- so does each second of the clock
+abbrev pub DatesRead : Type 0
+DatesRead = (t : ℕ) → t < 2 ^ 32 → MomentShown t
 
 -- Arguments
 

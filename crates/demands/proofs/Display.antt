@@ -18,7 +18,7 @@ use Rattle.display.specs.Displays.{Mark, displayed, displayWith, displayReply}
 use Rattle.display.proofs.Grammar.{means-as-written}
 use Rattle.display.proofs.Registered.{fields-in-order}
 use Rattle.display.proofs.NumberLaws.{numbers-read, read-by-meters, fields-fill-all, signed-back, dates-read}
-use Rattle.display.proofs.Laws.{shown-cong, arguments-in-order, only-two-lines, refused-display, shown-first}
+use Rattle.display.proofs.Laws.{shown-cong, arguments-in-order, lines-as-broken, only-two-lines, refused-display, shown-first}
 use Rattle.demands.specs.Account.{Account, accountOf}
 use Rattle.demands.specs.Starts.{Accepted}
 use Rattle.demands.specs.Shown.{shown}
@@ -83,6 +83,7 @@ cr-7 =
       signed = signed-back;
       dates = dates-read;
       arguments = arguments-in-order;
+      broken = lines-as-broken;
       lines = only-two-lines;
       refused-leaves = refused-display;
       shown-first = shown-first;

@@ -8,7 +8,7 @@ use Rattle.settings.specs.declared.Config.{Config}
 use Rattle.recorder.specs.History.{Call}
 use Rattle.recorder.specs.declared.Setup.{Setup}
 use Rattle.display.specs.Displays.{displayWith, displayReply}
-use Rattle.display.specs.Laws.{MeansAsWritten, NumbersRead, ReadByMeters, FieldsFill, FieldsInOrder, SignedBack, DatesRead, ArgumentsInOrder, OnlyTwoLines, RefusedDisplay, ShownFirst}
+use Rattle.display.specs.Laws.{MeansAsWritten, NumbersRead, ReadByMeters, FieldsFill, FieldsInOrder, SignedBack, DatesRead, ArgumentsInOrder, LinesAsBroken, OnlyTwoLines, RefusedDisplay, ShownFirst}
 use Rattle.demands.specs.Account.{Account, accountOf}
 use Rattle.demands.specs.Starts.{Accepted}
 use Rattle.demands.specs.Shown.{readable, shown}
@@ -53,6 +53,7 @@ pub record HallDisplay : Type 0 where
   -- "F uses up three argument bytes each", dropped or not; the first refusal in string order is given
   pub arguments : ArgumentsInOrder
   -- "Characters past the sixteenth of a line are dropped, and lines after the second too; what isn't written is blank"
+  pub broken : LinesAsBroken
   pub lines : OnlyTwoLines
   -- only the first 32 bytes are written, and only on success
   pub refused-leaves : RefusedDisplay

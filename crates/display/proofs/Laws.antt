@@ -21,7 +21,7 @@ use Rattle.display.specs.Formats.{FormatPart, letter, lineBreak, theDate
 use Rattle.display.specs.Fields.{fieldOf, argumentOf}
 use Rattle.display.specs.Numbers.{dateShown, timeShown, numberShown}
 use Rattle.display.specs.Displays.{Mark, character, newLine, characters, preceded, numberBefore, shownBy, lineShown, displayed, displayWith}
-use Rattle.display.specs.Laws.{numbersIn, ArgumentsInOrder, OnlyTwoLines, RefusedDisplay, ShownFirst}
+use Rattle.display.specs.Laws.{numbersIn, ArgumentsInOrder, LinesAsBroken, OnlyTwoLines, RefusedDisplay, ShownFirst}
 use Rattle.display.specs.declared.fields.Value.{Value}
 
 -- Arguments
@@ -150,6 +150,31 @@ shown-cong clock read other same arguments (number form ∷ parts) =
 shown-cong clock read other same arguments (badFormat ∷ parts) = refl
 
 -- The two lines
+
+-- text alone is the first line, and there is no second
+text-alone : (text : List ℕ) → lineShown 0 (characters text) ≡ text
+unfolding lineShown
+text-alone [] = refl
+text-alone (b ∷ text) = ap (λ (l : List ℕ). b ∷ l) (text-alone text)
+
+none-below : (text : List ℕ) → lineShown 1 (characters text) ≡ []
+unfolding lineShown
+none-below [] = refl
+none-below (b ∷ text) = none-below text
+
+-- text before a break is the first line, and what stands behind it begins the second
+text-first : (text : List ℕ) (behind : List Mark) → lineShown 0 (characters text ++ (newLine ∷ behind)) ≡ text
+unfolding lineShown
+text-first [] behind = refl
+text-first (b ∷ text) behind = ap (λ (l : List ℕ). b ∷ l) (text-first text behind)
+
+behind-second : (text : List ℕ) (behind : List Mark) → lineShown 1 (characters text ++ (newLine ∷ behind)) ≡ lineShown 0 behind
+unfolding lineShown
+behind-second [] behind = refl
+behind-second (b ∷ text) behind = behind-second text behind
+
+pub lines-as-broken : LinesAsBroken
+lines-as-broken = record { alone = text-alone; no-second = none-below; first = text-first; second = behind-second }
 
 pub only-two-lines : OnlyTwoLines
 only-two-lines =

@@ -23,7 +23,7 @@ use Rattle.display.specs.Formats.{FormatPart, letter, lineBreak, theDate
 use Rattle.display.specs.Written.{WrittenAs, NoSpecification}
 use Rattle.display.specs.Fields.{fieldBytes, isSigned, signedValue, valueIn}
 use Rattle.display.specs.Numbers.{dateShown, timeShown, writtenBy, paddingOf, numberShown}
-use Rattle.display.specs.Displays.{Mark, preceded, shownBy, lineShown, twoLines, displayWith}
+use Rattle.display.specs.Displays.{Mark, newLine, characters, preceded, shownBy, lineShown, twoLines, displayWith}
 use Rattle.display.specs.declared.fields.Value.{Value}
 use Rattle.display.specs.declared.formats.Form.{Form}
 
@@ -157,6 +157,13 @@ pub record ArgumentsInOrder : Type 0 where
       → shownBy clock read arguments parts ≡ given marks → shownBy clock read (arguments ++ more) parts ≡ given marks
 
 -- The two lines
+
+-- the characters before a first line break are the first line, all of them where there is none, and the second line is the first of what stands behind it
+pub record LinesAsBroken : Type 0 where
+  pub alone : (text : List ℕ) → lineShown 0 (characters text) ≡ text
+  pub no-second : (text : List ℕ) → lineShown 1 (characters text) ≡ []
+  pub first : (text : List ℕ) (behind : List Mark) → lineShown 0 (characters text ++ (newLine ∷ behind)) ≡ text
+  pub second : (text : List ℕ) (behind : List Mark) → lineShown 1 (characters text ++ (newLine ∷ behind)) ≡ lineShown 0 behind
 
 -- "Characters past the sixteenth of a line are dropped, and lines after the second too": what is shown goes by the first sixteen of the first two lines alone, each at its place
 pub record OnlyTwoLines : Type 0 where

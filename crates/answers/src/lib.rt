@@ -1,4 +1,5 @@
 // The lines that answer calls, each with its end.
+#![tactic(auto)]
 mod dates;
 mod errors;
 mod numbers;
@@ -36,7 +37,7 @@ use sampling::SampleAnswer;
 use texts::{with_byte, with_bytes};
 
 // A text of at most 256 letters: the first `length` bytes, and zeros behind them.
-#[derive(Drop)]
+#[derive(Clone, Copy)]
 pub struct Text {
     pub bytes: [u8; 256],
     pub length: usize,

@@ -1,5 +1,6 @@
 // `bench JOBS ROUNDS`: work to be measured. Standard input has an image, 1,000 samples of two bytes each, the lower first, and a data set of 25 bytes. Each letter of JOBS is a job,
 // done ROUNDS times on a recorder of its own, and its results are printed; those of bench/peer.c, the same jobs in C, are the same.
+#![tactic(auto)]
 mod jobs;
 mod report;
 

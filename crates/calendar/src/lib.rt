@@ -1,10 +1,11 @@
 // The calendar, lowest layer of the recorder: leap years, month lengths, days that exist, and the moment of a second of the clock.
+#![tactic(auto)]
 ghost use Rattle.std.specs.Prelude.{◌≡◌, ◌<◌};
 ghost use Rattle.calendar.specs.Dates.{leap_year, month_length, day_exists, exists_in_some_year};
 ghost use Rattle.calendar.specs.Moments.{dated_said, year_day, moment_at, moment_of};
 
 // A date with its weekday, 0 being Monday, and a time of day.
-#[derive(Drop)]
+#[derive(Clone, Copy)]
 pub struct Moment {
     pub year: u16,
     pub month: u8,
@@ -15,14 +16,14 @@ pub struct Moment {
     pub second: u8,
 }
 
-#[derive(Drop)]
+#[derive(Clone, Copy)]
 pub enum Dated {
     On(Moment),
     NoDate,
 }
 
 // The whole years from 1970 to a day, and the days of its own year before it.
-#[derive(Drop)]
+#[derive(Clone, Copy)]
 struct YearDay {
     years: u32,
     left: u32,

@@ -1,11 +1,12 @@
 // What samples come to: impulses, units, bills and the values of level 9.
+#![tactic(auto)]
 pub mod bills;
 pub mod filter;
 pub mod levels;
 pub mod units;
 
 // One line: its run of active samples, the impulses rejected, the remainder of its input, its units of the running period (level 0).
-#[derive(Drop)]
+#[derive(Clone, Copy)]
 pub struct Line {
     pub run: u32,
     pub rejected: u16,
@@ -14,7 +15,7 @@ pub struct Line {
 }
 
 // One bill register: the open amount, and the last closed one with its time.
-#[derive(Drop)]
+#[derive(Clone, Copy)]
 pub struct Bill {
     pub amount: u32,
     pub closed: u32,

@@ -8,7 +8,7 @@ use crate::filter::{accepts, one_more};
 use settings::Input;
 
 // A line after its run, and the units of the impulse.
-#[derive(Drop)]
+#[derive(Clone, Copy)]
 pub struct Settled {
     pub line: Line,
     pub units: u32,

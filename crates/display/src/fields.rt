@@ -10,13 +10,13 @@ use recorder::Recorder;
 use registers::{RegisterAnswer, read_register};
 
 // A number with its sign apart: whether it is negative, and its size.
-#[derive(Drop)]
+#[derive(Clone, Copy)]
 pub(crate) struct Value {
     pub minus: bool,
     pub size: u64,
 }
 
-#[derive(Drop)]
+#[derive(Clone, Copy)]
 pub(crate) enum FieldAnswer {
     Is(Value),
     Argument,

@@ -6,7 +6,7 @@ ghost use Rattle.display.specs.Formats.{width_of, width_bytes, decimals_of, bad_
 ghost use Rattle.display.specs.Steps.{specification_said};
 
 // How a number is shown: padded with zeros, the width or 0, the decimals or 0, and whether the value is shifted by them.
-#[derive(Drop)]
+#[derive(Clone, Copy)]
 pub(crate) struct Form {
     pub zeros: bool,
     pub width: u8,
@@ -14,7 +14,7 @@ pub(crate) struct Form {
     pub shifted: bool,
 }
 
-#[derive(Drop)]
+#[derive(Clone, Copy)]
 pub(crate) enum Kind {
     Date,
     Time,
@@ -23,7 +23,7 @@ pub(crate) enum Kind {
 }
 
 // A specification, and how many bytes it has behind the per cent. A bad one has all that are left.
-#[derive(Drop)]
+#[derive(Clone, Copy)]
 pub(crate) struct Specification {
     pub kind: Kind,
     pub bytes: usize,

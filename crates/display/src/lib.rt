@@ -1,4 +1,5 @@
 // The hall display: two lines of sixteen characters, driven by a format string. A text step and a specification step call each other until the string ends.
+#![tactic(auto)]
 mod fields;
 mod formats;
 mod numbers;
@@ -18,7 +19,7 @@ use recorder::Recorder;
 use screen::{Screen, blank, next_line, put};
 
 // The answer to a display: the two lines, or the refusal.
-#[derive(Drop)]
+#[derive(Clone, Copy)]
 pub enum DisplayAnswer {
     Shown,
     NoRoom,
@@ -27,7 +28,7 @@ pub enum DisplayAnswer {
 }
 
 // What became of a format string.
-#[derive(Drop)]
+#[derive(Clone, Copy)]
 enum Outcome {
     Whole,
     Format,
@@ -35,7 +36,7 @@ enum Outcome {
 }
 
 // The two lines; they count where the string was whole.
-#[derive(Drop)]
+#[derive(Clone, Copy)]
 struct Page {
     outcome: Outcome,
     cells: [u8; 32],

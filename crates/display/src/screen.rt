@@ -3,7 +3,7 @@ ghost use Rattle.std.specs.Prelude.{◌≡◌};
 ghost use Rattle.display.specs.Steps.{blank_screen, put_of, next_line};
 
 // The place of the next character, the end of its line, and the characters, blanks at first.
-#[derive(Drop)]
+#[derive(Clone, Copy)]
 pub(crate) struct Screen {
     pub at: usize,
     pub end: usize,

@@ -12,7 +12,7 @@ use sampling::SampleAnswer;
 pub(crate) const STORE_LENGTH: usize = 65537;
 
 // The recorder, what the next start is given (the chosen slots, the makers' lists), how many bytes of the store are lent, and how much of the output buffer is filled.
-#[derive(Drop)]
+#[derive(Clone, Copy)]
 pub(crate) struct Desk {
     pub recorder: Recorder,
     pub setup: Setup,
@@ -21,7 +21,7 @@ pub(crate) struct Desk {
 }
 
 // How many samples were taken, what the last was answered, and the recorder.
-#[derive(Drop)]
+#[derive(Clone, Copy)]
 struct Counted {
     taken: u32,
     answer: SampleAnswer,

@@ -1,6 +1,7 @@
 // `hall IMAGE`: a recorder, and calls on it as lines of standard input. Each line is answered by one line; a blank line and one that begins with # by none.
 // The lines are those of crate lines, the calls those of crates recorder, registers, makers and display, the answers those of crate answers. They are written in
 // large pieces, and all of them before more input is waited for.
+#![tactic(auto)]
 mod calls;
 mod output;
 
@@ -11,7 +12,7 @@ use image::IMAGE_LENGTH;
 use libc::{STDIN_FILENO, STDOUT_FILENO};
 
 // The recorder with its output, how many lines were read, and how much of the next one has been.
-#[derive(Drop)]
+#[derive(Clone, Copy)]
 struct Work {
     desk: Desk,
     lines: u64,

@@ -1,4 +1,5 @@
 // What the dashboard's host, written in C, asks directly: numbers and bytes only. include/recorder.h declares these functions for it.
+#![tactic(auto)]
 ghost use Rattle.std.specs.Prelude.{◌≡◌, ◌<◌};
 ghost use Rattle.laws.specs.Answers.{given, refused};
 ghost use Rattle.calendar.specs.Moments.{moment_of};

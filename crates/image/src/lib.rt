@@ -1,4 +1,5 @@
 // The configuration read from an image and written to one. Its types, the rule of each entry and the check are those of crate settings, passed on.
+#![tactic(auto)]
 mod le;
 mod read;
 mod write;
@@ -14,7 +15,7 @@ use tariff::{Date, Holiday, Program, Rule, Season, Window};
 pub const IMAGE_LENGTH: usize = 1126;
 
 // What an image is answered.
-#[derive(Drop)]
+#[derive(Clone, Copy)]
 pub enum ImageAnswer {
     Accepted,
     Length,
@@ -24,14 +25,14 @@ pub enum ImageAnswer {
 }
 
 // An enum holds no array: the configuration stands beside the answer, and is blank where the image is refused.
-#[derive(Drop)]
+#[derive(Clone, Copy)]
 pub struct ImageRead {
     pub answer: ImageAnswer,
     pub config: Config,
 }
 
 // What writing an image is answered.
-#[derive(Drop)]
+#[derive(Clone, Copy)]
 pub enum WriteAnswer {
     Written,
     Value(usize),
@@ -39,7 +40,7 @@ pub enum WriteAnswer {
 }
 
 // An image written anew, and zeros beside a refusal.
-#[derive(Drop)]
+#[derive(Clone, Copy)]
 pub struct ImageCopy {
     pub answer: ImageAnswer,
     pub image: [u8; IMAGE_LENGTH],

@@ -1,5 +1,6 @@
 // The image tester: it reads an image from standard input and prints one line, `ok` or `refused N at OFFSET`. One byte more than an image has is read, so
 // that a longer input is told from an image.
+#![tactic(auto)]
 use image::IMAGE_LENGTH;
 use libc::{STDIN_FILENO, STDOUT_FILENO};
 

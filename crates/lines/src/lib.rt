@@ -1,4 +1,5 @@
 // What a line of a text of calls asks for. A line is taken without its end.
+#![tactic(auto)]
 mod hex;
 mod numbers;
 mod words;
@@ -14,7 +15,7 @@ ghost use Rattle.lines.specs.Lines.{bad as Lines·bad};
 use numbers::{Number, Signed};
 
 // What a line asks, or what is wrong with it.
-#[derive(Drop)]
+#[derive(Clone, Copy)]
 pub enum Line {
     // A blank line, or one that begins with #.
     Nothing,
@@ -52,7 +53,7 @@ pub enum Line {
 }
 
 // The chosen slots of a profile.
-#[derive(Drop)]
+#[derive(Clone, Copy)]
 pub struct Slots {
     pub s0: u8,
     pub s1: u8,
@@ -65,7 +66,7 @@ pub struct Slots {
 }
 
 // What a maker's list names, a bit for each.
-#[derive(Drop)]
+#[derive(Clone, Copy)]
 pub struct Masks {
     pub meters: u32,
     pub inputs: u16,
@@ -74,14 +75,14 @@ pub struct Masks {
 }
 
 // The bytes of HEX, with zeros behind them.
-#[derive(Drop)]
+#[derive(Clone, Copy)]
 pub struct Bytes {
     pub bytes: [u8; 128],
     pub count: usize,
 }
 
 // What is wrong with a line.
-#[derive(Drop)]
+#[derive(Clone, Copy)]
 pub enum Mistake {
     // More than 255 letters.
     TooLong,
@@ -93,7 +94,7 @@ pub enum Mistake {
     Number(Parameter),
 }
 
-#[derive(Drop)]
+#[derive(Clone, Copy)]
 pub enum Command {
     Start,
     Sample,
@@ -116,7 +117,7 @@ pub enum Command {
 }
 
 // The numbers that lines have, and HEX.
-#[derive(Drop)]
+#[derive(Clone, Copy)]
 pub enum Parameter {
     Seconds,
     Bits,
@@ -164,14 +165,14 @@ const COMMANDS: [Command; 18] = [
 ];
 
 // What the first word of a line says.
-#[derive(Drop)]
+#[derive(Clone, Copy)]
 enum First {
     Is(Command),
     Unknown,
 }
 
 // The commands that have one time.
-#[derive(Drop)]
+#[derive(Clone, Copy)]
 enum Timed {
     Start,
     Set,
@@ -179,7 +180,7 @@ enum Timed {
 }
 
 // Who asks for a register.
-#[derive(Drop)]
+#[derive(Clone, Copy)]
 enum Asker {
     Operator,
     Maker(u8),

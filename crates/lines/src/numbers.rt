@@ -4,14 +4,14 @@ ghost use Rattle.laws.specs.Decimals.{is_digit as Decimals·isDigit};
 ghost use Rattle.lines.specs.Numbers.{no_number, whole_of, signed_of};
 
 // What a word is as a number; 0 stands beside a word that is none.
-#[derive(Drop)]
+#[derive(Clone, Copy)]
 pub struct Number {
     pub ok: bool,
     pub value: u32,
 }
 
 // The same with a sign.
-#[derive(Drop)]
+#[derive(Clone, Copy)]
 pub struct Signed {
     pub ok: bool,
     pub value: i32,

@@ -1,4 +1,5 @@
 // Each maker reads only their own: the lists that a start is given, and a maker's register requests.
+#![tactic(auto)]
 ghost use Rattle.std.specs.Prelude.{◌≡◌};
 ghost use Rattle.laws.specs.If.{if◌then◌else◌};
 ghost use Rattle.makers.specs.Lists.{listing_said, list_reply};
@@ -9,20 +10,20 @@ use registers::{RegisterAnswer, read_register};
 use tariff::bit_at;
 
 // The answer to a maker's request: that there is no such maker, or what a register request is answered.
-#[derive(Drop)]
+#[derive(Clone, Copy)]
 pub enum MakerAnswer {
     NoMaker,
     Asked(RegisterAnswer),
 }
 
-#[derive(Drop)]
+#[derive(Clone, Copy)]
 pub enum ListAnswer {
     Listed,
     NoMaker,
 }
 
 // What the next start is given, and the answer.
-#[derive(Drop)]
+#[derive(Clone, Copy)]
 pub struct Listing {
     pub setup: Setup,
     pub answer: ListAnswer,

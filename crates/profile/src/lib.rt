@@ -1,4 +1,5 @@
 // The load profile: a record of each closed period in a lent buffer, the newest in the room of the oldest where the room is used up.
+#![tactic(auto)]
 mod records;
 
 ghost use Rattle.std.specs.Prelude.{◌≡◌, ◌+◌, ◌<◌, min};
@@ -13,7 +14,7 @@ use records::{copy_record, put_record};
 const LONGEST: usize = 65536;
 
 // Where the records stand in the lent buffer: its length at the start, the place of the next record, counted in records, and how many are held.
-#[derive(Drop)]
+#[derive(Clone, Copy)]
 pub struct Profile {
     pub length: usize,
     pub next: usize,
@@ -21,7 +22,7 @@ pub struct Profile {
 }
 
 // The answer to a request for a record.
-#[derive(Drop)]
+#[derive(Clone, Copy)]
 pub enum RecordAnswer {
     Given,
     ProfileBuffer,

@@ -11,7 +11,7 @@ ghost use Rattle.profile.specs.Records.{slots_fit, value_at, chosen_values, valu
 pub const RECORD_LENGTH: usize = 69;
 
 // What is kept of a closed period: its closing time, its state, and the values of the chosen slots.
-#[derive(Drop)]
+#[derive(Clone, Copy)]
 pub struct Record {
     pub stamp: u32,
     pub state: u8,

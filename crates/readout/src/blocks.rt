@@ -8,7 +8,7 @@ const STX: u8 = 2;
 
 const ETX: u8 = 3;
 
-#[derive(Drop)]
+#[derive(Clone, Copy)]
 pub enum BlockAnswer {
     Whole,
     Block,

@@ -7,7 +7,7 @@ ghost use Rattle.readout.specs.DataSets.{between as DataSets·between};
 ghost use Rattle.readout.specs.Answers.{place_said, value_part};
 
 // Where the value stands in a line, and how many letters it has.
-#[derive(Drop)]
+#[derive(Clone, Copy)]
 pub enum PlaceAnswer {
     At(usize, usize),
     // The line is no data set.

@@ -1,4 +1,5 @@
 // What meters send by themselves (CR 4): data sets, the numbers in them, and the blocks around them. On bytes alone.
+#![tactic(auto)]
 mod blocks;
 mod data_sets;
 mod numbers;
@@ -10,7 +11,7 @@ pub use blocks::{BlockAnswer, check_block};
 pub use data_sets::{PlaceAnswer, value_place, value_text};
 pub use numbers::{NumberAnswer, whole_number};
 
-#[derive(Drop)]
+#[derive(Clone, Copy)]
 pub enum LineAnswer {
     // What the value's text is as a number.
     Read(NumberAnswer),

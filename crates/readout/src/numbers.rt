@@ -5,7 +5,7 @@ ghost use Rattle.readout.specs.Numbers.{in32_bits, whole_number};
 ghost use Rattle.readout.specs.Answers.{number_said};
 ghost use Rattle.readout.specs.Held.{held, all_zeros, digits_read, size_said, held_size, fraction_size};
 
-#[derive(Drop)]
+#[derive(Clone, Copy)]
 pub enum NumberAnswer {
     Is(i32),
     NotANumber,
@@ -13,14 +13,14 @@ pub enum NumberAnswer {
 }
 
 // The digits in front of a text: how many there are, and the number that they make, held at 4,294,967,295.
-#[derive(Drop)]
+#[derive(Clone, Copy)]
 struct Digits {
     count: usize,
     value: u32,
 }
 
 // A number without its sign, held at 4,294,967,295, which does not fit.
-#[derive(Drop)]
+#[derive(Clone, Copy)]
 enum Size {
     Is(u32),
     NotANumber,

@@ -14,14 +14,14 @@ use image::{Config, Register};
 use profile::Profile;
 use sampling::clock::close_with;
 
-#[derive(Drop)]
+#[derive(Clone, Copy)]
 pub enum SetAnswer {
     Set,
     ProfileBuffer,
     NoDate,
 }
 
-#[derive(Drop)]
+#[derive(Clone, Copy)]
 pub struct Setting {
     pub state: State,
     pub profile: Profile,
@@ -29,7 +29,7 @@ pub struct Setting {
 }
 
 // Whether the stamp was renewed or kept, or why the reading was refused.
-#[derive(Drop)]
+#[derive(Clone, Copy)]
 pub enum ReadingAnswer {
     Renewed,
     Kept,
@@ -38,7 +38,7 @@ pub enum ReadingAnswer {
     BadReading,
 }
 
-#[derive(Drop)]
+#[derive(Clone, Copy)]
 pub struct Reading {
     pub state: State,
     pub answer: ReadingAnswer,

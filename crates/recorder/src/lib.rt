@@ -1,4 +1,5 @@
 // The recorder: what is fixed, what moves, and the calls that move it.
+#![tactic(auto)]
 mod calls;
 mod meters;
 mod samples;
@@ -27,7 +28,7 @@ use sampling::samples::take;
 pub use sampling::{Meter, Period, SampleAnswer, State};
 
 // What a maker may read, as masks: bit i names meter, input, slot or bill register i. Overlaps and things that are not fitted are legal.
-#[derive(Drop)]
+#[derive(Clone, Copy)]
 pub struct MakerList {
     pub meters: u32,
     pub inputs: u16,
@@ -44,14 +45,14 @@ pub const EMPTY_LIST: MakerList = MakerList {
 };
 
 // What else a start is given: the eight chosen slots of the load profile, and the lists of the three makers.
-#[derive(Drop)]
+#[derive(Clone, Copy)]
 pub struct Setup {
     pub slots: [u8; 8],
     pub lists: [MakerList; 3],
 }
 
 // What is fixed from the start on, what moves, and where the records of the load profile stand in the buffer that is lent to the calls.
-#[derive(Drop)]
+#[derive(Clone, Copy)]
 pub struct Recorder {
     pub state: State,
     pub config: Config,
@@ -59,7 +60,7 @@ pub struct Recorder {
     pub profile: Profile,
 }
 
-#[derive(Drop)]
+#[derive(Clone, Copy)]
 pub enum StartAnswer {
     Started,
     ProfileBuffer,
@@ -72,40 +73,40 @@ pub enum StartAnswer {
 }
 
 // The recorder beside a refused start is the blank one.
-#[derive(Drop)]
+#[derive(Clone, Copy)]
 pub struct Start {
     pub recorder: Recorder,
     pub answer: StartAnswer,
 }
 
-#[derive(Drop)]
+#[derive(Clone, Copy)]
 pub struct Sampled {
     pub recorder: Recorder,
     pub answer: SampleAnswer,
 }
 
 // How many samples were taken, and the refusal that ended the run, if there was one.
-#[derive(Drop)]
+#[derive(Clone, Copy)]
 pub struct SampleRun {
     pub recorder: Recorder,
     pub taken: usize,
     pub answer: SampleAnswer,
 }
 
-#[derive(Drop)]
+#[derive(Clone, Copy)]
 pub struct ClockSet {
     pub recorder: Recorder,
     pub answer: SetAnswer,
 }
 
-#[derive(Drop)]
+#[derive(Clone, Copy)]
 pub struct MeterRead {
     pub recorder: Recorder,
     pub answer: ReadingAnswer,
 }
 
 // What is said of a data set that is to be booked as a reading: why it is none, or what is said of the reading.
-#[derive(Drop)]
+#[derive(Clone, Copy)]
 pub enum ReadoutAnswer {
     Block,
     Line,
@@ -114,7 +115,7 @@ pub enum ReadoutAnswer {
     Read(ReadingAnswer),
 }
 
-#[derive(Drop)]
+#[derive(Clone, Copy)]
 pub struct MeterReadout {
     pub recorder: Recorder,
     pub answer: ReadoutAnswer,

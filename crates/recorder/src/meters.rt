@@ -3,7 +3,7 @@ ghost use Rattle.std.specs.Prelude.{◌≡◌};
 ghost use Rattle.recorder.specs.Meters.{age_number, class_of, age_said, age_of};
 
 // The classes of a fitted meter.
-#[derive(Drop)]
+#[derive(Clone, Copy)]
 pub enum Age {
     Awake,
     Stale,
@@ -11,7 +11,7 @@ pub enum Age {
     Never,
 }
 
-#[derive(Drop)]
+#[derive(Clone, Copy)]
 pub enum AgeAnswer {
     Class(Age),
     NotFitted,

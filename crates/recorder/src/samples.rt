@@ -14,7 +14,7 @@ use sampling::clock::close;
 use sampling::samples::take;
 
 // What a sample came to.
-#[derive(Drop)]
+#[derive(Clone, Copy)]
 pub struct Taking {
     pub state: State,
     pub profile: Profile,

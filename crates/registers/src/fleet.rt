@@ -17,7 +17,7 @@ pub(crate) const NEVER: u8 = 3;
 const NOT_FITTED: u8 = 4;
 
 // How many meters are fitted, how many of these are of each class, and the sum of the awake values.
-#[derive(Drop)]
+#[derive(Clone, Copy)]
 pub struct Fleet {
     pub fitted: u8,
     pub awake: u8,

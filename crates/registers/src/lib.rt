@@ -1,4 +1,5 @@
 // Register requests: a group, a register and a lent buffer. Each ends with the register's bytes or with the refusal that document 01 names for it.
+#![tactic(auto)]
 mod contents;
 mod fleet;
 mod numbers;
@@ -12,7 +13,7 @@ use image::Config;
 use recorder::Recorder;
 
 // The answer to a request: how many bytes were given, or the refusal.
-#[derive(Drop)]
+#[derive(Clone, Copy)]
 pub enum RegisterAnswer {
     Given(usize),
     NoGroup,
@@ -22,7 +23,7 @@ pub enum RegisterAnswer {
 }
 
 // How many registers a group has, and how many bytes each.
-#[derive(Drop)]
+#[derive(Clone, Copy)]
 enum Layout {
     Of(u32, usize),
     NoGroup,

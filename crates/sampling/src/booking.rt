@@ -8,7 +8,7 @@ use counting::bills::{fed_registers, register_units, some_full, sums_units};
 use settings::{Config, Register};
 
 // The registers that units go to by the tariffs in force, once they are worked out: they stay the same to the end of the minute.
-#[derive(Drop)]
+#[derive(Clone, Copy)]
 pub struct Tariffs {
     pub known: bool,
     pub fed: u16,

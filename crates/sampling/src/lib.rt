@@ -1,4 +1,5 @@
 // What moves, and the samples that move it.
+#![tactic(auto)]
 mod booking;
 pub mod clock;
 pub mod samples;
@@ -6,7 +7,7 @@ pub mod samples;
 use counting::{Bill, Line};
 
 // One serial meter: its last reading, if there was one.
-#[derive(Drop)]
+#[derive(Clone, Copy)]
 pub struct Meter {
     pub read: bool,
     pub stamp: u32,
@@ -16,7 +17,7 @@ pub struct Meter {
 }
 
 // The last closed period, level 9: 0 none, 1 short, 2 whole; its closing time; the values of the 16 slots.
-#[derive(Drop)]
+#[derive(Clone, Copy)]
 pub struct Period {
     pub state: u8,
     pub stamp: u32,
@@ -24,7 +25,7 @@ pub struct Period {
 }
 
 // What moves: the clock, the samples of its second, the first second of the running period, lines, bills, meters, the last closed period.
-#[derive(Drop)]
+#[derive(Clone, Copy)]
 pub struct State {
     pub clock: u32,
     pub samples: u8,
@@ -36,7 +37,7 @@ pub struct State {
 }
 
 // The answer to a sample. PROFILE BUFFER is given by the recorder, to which the profile's buffer is lent.
-#[derive(Drop)]
+#[derive(Clone, Copy)]
 pub enum SampleAnswer {
     Taken,
     ProfileBuffer,

@@ -13,7 +13,7 @@ use counting::units::settle;
 use settings::Config;
 
 // A run to the first closing: the state, how many samples were taken, the refusal that ended it, if there was one, and whether it ended with a closing, which is still to be done.
-#[derive(Drop)]
+#[derive(Clone, Copy)]
 pub struct Lap {
     pub state: State,
     pub taken: usize,

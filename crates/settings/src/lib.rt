@@ -1,4 +1,5 @@
 // The configuration: typed, and checked by one rule.
+#![tactic(auto)]
 mod rules;
 
 ghost use Rattle.std.specs.Prelude.{◌≡◌, ◌+◌, ◌*◌, ◌<◌};
@@ -33,7 +34,7 @@ pub const RULES_AT: usize = 1062;
 pub const REGISTERS_AT: usize = 1094;
 
 // One impulse input. Kind 0 is not fitted, 1 S1a, 2 S1r.
-#[derive(Drop)]
+#[derive(Clone, Copy)]
 pub struct Input {
     pub kind: u8,
     pub shortest: u8,
@@ -43,21 +44,21 @@ pub struct Input {
 }
 
 // One slot of level 9; 255, 0 is empty.
-#[derive(Drop)]
+#[derive(Clone, Copy)]
 pub struct Slot {
     pub level: u8,
     pub index: u8,
 }
 
 // One bill register; rule 255 is none, 255, 255 is unused.
-#[derive(Drop)]
+#[derive(Clone, Copy)]
 pub struct Register {
     pub sum: u8,
     pub rule: u8,
 }
 
 // A configuration: each field as wide as in the image. Function f has the coefficients f x 8 to f x 8 + 7.
-#[derive(Drop)]
+#[derive(Clone, Copy)]
 pub struct Config {
     pub period: u8,
     pub inputs: [Input; 16],
@@ -70,7 +71,7 @@ pub struct Config {
 }
 
 // What a check finds: nothing, or the offset of the first entry that breaks its rule.
-#[derive(Drop)]
+#[derive(Clone, Copy)]
 pub enum Verdict {
     Good,
     Value(usize),

@@ -1,0 +1,16 @@
+-- `settings::rules::slots` meets its contract. The loop's invariant: no entry before i breaks its rule.
+use mathlib.Core.Path.{sym, ◌∙◌}
+use Rattle.laws.proofs.Broken.{kept_none, kept_more, kept_broken, kept_all}
+use Rattle.settings.proofs.rules.slots.Goals as goal
+
+pub loop-i-init : goal.loop-i-init
+loop-i-init c = kept_none 16 _
+
+pub returns-then-not-slot : goal.returns-then-not-slot
+returns-then-not-slot c = kept_broken c.loop-i.invariant c.loop-i-test.true (sym c.slot.ensures ∙ c.if-not-slot.true)
+
+pub loop-i-preserved : goal.loop-i-preserved
+loop-i-preserved c = kept_more c.loop-i.invariant c.loop-i-test.true (sym c.slot.ensures ∙ c.if-not-slot.false)
+
+pub returns : goal.returns
+returns c = kept_all c.loop-i.invariant c.loop-i-test.false

@@ -1,0 +1,16 @@
+-- `settings::rules::windows` meets its contract. The loop's invariant: no entry before i breaks its rule.
+use mathlib.Core.Path.{sym, ◌∙◌}
+use Rattle.laws.proofs.Broken.{kept_none, kept_more, kept_broken, kept_all}
+use Rattle.settings.proofs.rules.windows.Goals as goal
+
+pub loop-i-init : goal.loop-i-init
+loop-i-init c = kept_none 128 _
+
+pub returns-then-not-window : goal.returns-then-not-window
+returns-then-not-window c = kept_broken c.loop-i.invariant c.loop-i-test.true (sym c.window.ensures ∙ c.if-not-window.true)
+
+pub loop-i-preserved : goal.loop-i-preserved
+loop-i-preserved c = kept_more c.loop-i.invariant c.loop-i-test.true (sym c.window.ensures ∙ c.if-not-window.false)
+
+pub returns : goal.returns
+returns c = kept_all c.loop-i.invariant c.loop-i-test.false

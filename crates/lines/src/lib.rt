@@ -1,5 +1,6 @@
 // What a line of a text of calls asks for. A line is taken without its end.
 #![tactic(auto)]
+
 mod hex;
 mod numbers;
 mod words;

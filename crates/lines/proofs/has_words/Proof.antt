@@ -1,9 +1,0 @@
--- `lines::has_words` meets its contract: by the variants.
-use borrow.Author.Rules.{rules}
-use Rattle.lines.proofs.has_words.Statement.{statement}
-use Rattle.lines.proofs.has_words.Tie as tie
-
-pub has_words_spec : {M : Type 1} → statement M
-has_words_spec =
-    tie.close
-    (tie.spec (λ c. search rules) (λ c. search rules) (λ c. search rules) (λ c. search rules) (λ c. search rules) (λ c. search rules) (λ c. search rules) (λ c. search rules) (λ c. search rules) (λ c. search rules) (λ c. search rules) (λ c. search rules) (λ c. search rules) (λ c. search rules) (λ c. search rules) (λ c. search rules) (λ c. search rules) (λ c. search rules) (λ c. rw c.enum_told.given.1) (λ c. rw c.enum-told2.given.1) (λ c. rw c.enum-told3.given.1) (λ c. rw c.enum-told4.given.1) (λ c. rw c.enum-told5.given.1) (λ c. rw c.enum-told6.given.1) (λ c. rw c.enum-told7.given.1) (λ c. rw c.enum-told8.given.1) (λ c. rw c.enum-told9.given.1) (λ c. rw c.enum-told10.given.1) (λ c. rw c.enum-told11.given.1) (λ c. rw c.enum-told12.given.1) (λ c. rw c.enum-told13.given.1) (λ c. rw c.enum-told14.given.1) (λ c. rw c.enum-told15.given.1) (λ c. rw c.enum-told16.given.1) (λ c. rw c.enum-told17.given.1) (λ c. rw c.enum-told18.given.1))

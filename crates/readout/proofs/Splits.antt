@@ -10,7 +10,6 @@ use lib.Dec.{leb, eqb}
 use lib.ListN.{length, get_or, take, drop, take-append-drop, drop_of_length-le}
 use lib.Seq.{drop-drop, length-take-le, take-append_seam, drop-append_seam}
 use Rattle.laws.specs.Answers.{given}
-use Rattle.laws.specs.Each.{Each}
 use Rattle.laws.specs.If.{if◌then◌else◌}
 use Rattle.laws.specs.Leading.{leading}
 use Rattle.laws.proofs.Answers.{by_answer}

@@ -12,7 +12,6 @@ use lib.ListN.{length, get_or, take, drop, length-drop, take-append-drop, drop_o
 use lib.Seq.{take_all, length-take-le, take-append_seam, drop-append_seam}
 use Rattle.laws.specs.Answers.{given, refused}
 use Rattle.laws.specs.Decimals.{is_digit, digits, value_from}
-use Rattle.laws.specs.Each.{Each}
 use Rattle.laws.specs.Leading.{leading}
 use Rattle.laws.proofs.Decimals.{digits_each, each_digits}
 use Rattle.laws.proofs.Leading.{leading_exactly, leading_all, leading_each, leading_most}

@@ -1,5 +1,6 @@
 // What meters send by themselves (CR 4): data sets, the numbers in them, and the blocks around them. On bytes alone.
 #![tactic(auto)]
+
 mod blocks;
 mod data_sets;
 mod numbers;

@@ -4,14 +4,12 @@ use mathlib.Core.Bool.{false, ◌&&◌}
 use mathlib.Core.List.{List}
 use Prim.Native.Nat.{ℕ, ◌+◌, ◌-◌, ◌≤◌, ◌<◌}
 use native.Mathlib.Omega.{arith}
-use borrow.Author.Rules.{rules}
 use borrow.Author.Tests.{eqb-true, eqb-false, eq-eqb, ne_eqb}
 use lib.Dec.{eqb}
 use lib.ListN.{length, get_or}
 use Rattle.laws.proofs.Tests.{by_test}
 use Rattle.readout.specs.DataSets.{closes_at}
-use Rattle.readout.proofs.data_sets.closes.Statement.{statement}
-use Rattle.readout.proofs.data_sets.closes.Tie as tie
+use Rattle.readout.proofs.data_sets.closes.Goals as goal
 
 -- past the end no bracket stands
 past : (line : List ℕ) (at : ℕ) → length line ≤ at → closes_at line at ≡ false
@@ -23,13 +21,10 @@ one_left n at h =
     by_test (eqb n (at + 1)) (λ t. let e = eqb-true n (at + 1) t in rw (t, eq-eqb (n - at) 1 (omega arith)))
     (λ t. let e = eqb-false n (at + 1) t in rw (t, ne_eqb (n - at) 1 (λ k. e (omega arith))))
 
-returns : tie.Need-returns
-returns c = sym (past c.before.args.line.now _ c.if1.true)
+pub returns-then-line-at : goal.returns-then-line-at
+returns-then-line-at c = sym (past c.args.line.now _ c.if-line-at.true)
 
-returns_2 : tie.Need-returns-2
-returns_2 c =
-    let a = c.before.before.args in
-    ap (◌&&◌ (eqb (get_or a.line.now a.at 0) 41)) (one_left (length a.line.now) a.at c.before.if1.false)
-
-pub closes_spec : {M : Type 1} → statement M
-closes_spec = tie.close (tie.spec returns (λ c. search rules) (λ c. search rules) returns_2)
+pub returns : goal.returns
+returns c =
+    let a = c.args in
+    ap (◌&&◌ (eqb (get_or a.line.now a.at 0) 41)) (one_left (length a.line.now) a.at c.if-line-at.false)

@@ -1,9 +1,9 @@
 -- What putting and reading a record come to, from the tests that the code makes.
 use mathlib.Core.Path.{◌≡◌, sym, ◌∙◌}
-use mathlib.Core.Bool.{Bool, true, false, not}
+use mathlib.Core.Bool.{Bool, true, false}
 use mathlib.Core.List.{List, ◌++◌, append_assoc}
 use Prim.Native.Nat.{ℕ, ◌+◌, ◌*◌, ◌<◌, ◌≤◌}
-use borrow.Author.Tests.{not-true, not-false, lt-ltb, le-ltb, le-leb, lt-leb}
+use borrow.Author.Tests.{lt-ltb, le-ltb, le-leb, lt-leb}
 use lib.ListN.{length, take, drop, length-append}
 use lib.Seq.{sets}
 use Rattle.laws.specs.Bytes.{bytes_of}
@@ -31,34 +31,34 @@ record_stored l at r e₁ e₂ e₃ =
 -- a profile, a buffer, and what the code found of the buffer's length
 module _ (p : Profile) (buffer : List ℕ) (lent : Bool) (is : lent ≡ as_at_start p (length buffer)) where
   -- another length: nothing is put
-  pub left_alone : (r : Record) → not lent ≡ true → kept p buffer ≡ with_record (kept p buffer) r
+  pub left_alone : (r : Record) → lent ≡ false → kept p buffer ≡ with_record (kept p buffer) r
   unfolding with_record
-  left_alone r e = rw (sym is ∙ not-true lent e)
+  left_alone r e = rw (sym is ∙ e)
 
   -- that of the start: the record is put in the next place
-  pub one_put : (r : Record) (place : ℕ) (p' : Profile) (buffer' : List ℕ) → not lent ≡ false → place ≡ next_place p → p' ≡ moved_on p
+  pub one_put : (r : Record) (place : ℕ) (p' : Profile) (buffer' : List ℕ) → lent ≡ true → place ≡ next_place p → p' ≡ moved_on p
       → buffer' ≡ sets buffer (69 * place) (record_bytes r) → kept p' buffer' ≡ with_record (kept p buffer) r
   unfolding with_record written
-  one_put r place p' buffer' e at moved put = rw (sym is ∙ not-false lent e, moved, put, at)
+  one_put r place p' buffer' e at moved put = rw (sym is ∙ e, moved, put, at)
 
   -- 14
-  pub reply_14 : (index : ℕ) (result : List ℕ) → not lent ≡ true → record_refused 14 result ≡ record_reply p index buffer result
+  pub reply_14 : (index : ℕ) (result : List ℕ) → lent ≡ false → record_refused 14 result ≡ record_reply p index buffer result
   unfolding record_reply
-  reply_14 index result e = rw (sym is ∙ not-true lent e)
+  reply_14 index result e = rw (sym is ∙ e)
 
-  module _ (index held : ℕ) (result : List ℕ) (right : not lent ≡ false) (count : held ≡ held_in p) where
+  module _ (index held : ℕ) (result : List ℕ) (right : lent ≡ true) (count : held ≡ held_in p) where
     -- 15
     pub reply_15 : held ≤ index → record_refused 15 result ≡ record_reply p index buffer result
     unfolding record_reply
-    reply_15 e = rw (sym is ∙ not-false lent right, le-leb (held_in p) index (rw (← count) e))
+    reply_15 e = rw (sym is ∙ right, le-leb (held_in p) index (rw (← count) e))
 
     -- 13
     pub reply_13 : index < held → length result < 69 → record_refused 13 result ≡ record_reply p index buffer result
     unfolding record_reply
-    reply_13 e few = rw (sym is ∙ not-false lent right, lt-leb (held_in p) index (rw (← count) e), lt-ltb (length result) 69 few)
+    reply_13 e few = rw (sym is ∙ right, lt-leb (held_in p) index (rw (← count) e), lt-ltb (length result) 69 few)
 
     -- the record
     pub reply_read : (place : ℕ) (result' : List ℕ) → index < held → 69 ≤ length result → place ≡ place_at p index
         → result' ≡ take 69 (drop (69 * place) buffer) ++ drop 69 result → record_replied Given result' ≡ record_reply p index buffer result
     unfolding record_reply
-    reply_read place result' e enough at copied = rw (sym is ∙ not-false lent right, lt-leb (held_in p) index (rw (← count) e), le-ltb (length result) 69 enough, copied, at)
+    reply_read place result' e enough at copied = rw (sym is ∙ right, lt-leb (held_in p) index (rw (← count) e), le-ltb (length result) 69 enough, copied, at)

@@ -1,5 +1,6 @@
 // The load profile: a record of each closed period in a lent buffer, the newest in the room of the oldest where the room is used up.
 #![tactic(auto)]
+
 mod records;
 
 ghost use Rattle.std.specs.Prelude.{◌≡◌, ◌+◌, ◌<◌, min};

@@ -1,0 +1,27 @@
+-- `profile::records::bits64` meets its contract: two's complement of a negative number, and of one that is not.
+use mathlib.Core.Path.{◌≡◌}
+use borrow.Author.Rules.{rules}
+use lib.IntN.{pos}
+use mir.Syntax.{w64}
+use mir.Val.{to_z, of_z}
+use mir.Facts.{to_z-of_z, Fits-of_z}
+use Rattle.laws.proofs.Signed.{Negative, negative, natural}
+use Rattle.profile.proofs.records.bits64.Goals as goal
+
+neg : (c : goal.Then-z-lt0) → Negative w64 c.args.z
+neg c = negative w64 c.args.z c.ranges.z (rw (to_z-of_z c.ranges.z) at c.if-z-lt0.true)
+
+nat : (c : goal.Else-z-lt0) → to_z w64 (of_z w64 c.args.z) ≡ pos (of_z w64 c.args.z)
+nat c = natural w64 c.args.z c.ranges.z (rw (to_z-of_z c.ranges.z) at c.if-z-lt0.false)
+
+pub overflow_cast-result : goal.overflow_cast-result
+overflow_cast-result c = let t = neg c in rw t.flipped (tt, search rules)
+
+pub overflow_cast-result-else-z-lt0 : goal.overflow_cast-result-else-z-lt0
+overflow_cast-result-else-z-lt0 c = rw (nat c) (tt, Fits-of_z c.ranges.z)
+
+pub returns-then-z-lt0 : goal.returns-then-z-lt0
+returns-then-z-lt0 c = let t = neg c in rw t.flipped t.back
+
+pub returns-else-z-lt0 : goal.returns-else-z-lt0
+returns-else-z-lt0 c = rw (nat c)

@@ -60,6 +60,7 @@ bad_first (s ∷ rest) o e =
 
 first_bad_lem : (ss : List Section) (o : ℕ) → FirstBadAt ss o → first_bad ss ≡ refused 4 o
 unfolding first_bad
+first_bad_lem [] o x = elim x [ ]
 first_bad_lem (s ∷ rest) o (here i l b before) =
     rw (first_is s.count (broken s) i l (rw b) (λ j k. rw (before j k)), lt-ltb i s.count l)
 first_bad_lem (s ∷ rest) o (later h f) = rw (holds_none s h) (first_bad_lem rest o f)

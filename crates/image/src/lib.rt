@@ -1,5 +1,6 @@
 // The configuration read from an image and written to one. Its types, the rule of each entry and the check are those of crate settings, passed on.
 #![tactic(auto)]
+
 mod le;
 mod read;
 mod write;

@@ -1,0 +1,11 @@
+-- `image::read::coefficients` meets its contract. The loop's invariant: the entries before i are there.
+use Prim.Native.Nat.{◌-◌}
+use Rattle.laws.proofs.Runs.{Filled}
+use Rattle.image.specs.Entries.{coefficient_of}
+use Rattle.image.proofs.read.coefficients.Given as goal
+
+abbrev pub invariant-loop-i : goal.invariant-loop-i
+invariant-loop-i l = Filled coefficient_of 1 32 l.s l.base l.r l.i
+
+abbrev pub decreases-loop-i : goal.decreases-loop-i
+decreases-loop-i l = 32 - l.i

@@ -1,0 +1,12 @@
+-- `image::read::slots` meets its contract. The loop's invariant: the entries before i are there.
+use Rattle.laws.proofs.Runs.{filled_none, filled_more, filled_all}
+use Rattle.image.proofs.read.slots.Goals as goal
+
+pub loop-i-init : goal.loop-i-init
+loop-i-init c = filled_none _ _ _ _ _
+
+pub loop-i-preserved : goal.loop-i-preserved
+loop-i-preserved c = filled_more c.loop-i.invariant c.slot.result c.loop-i-test.true c.slot.ensures
+
+pub returns : goal.returns
+returns c = filled_all c.loop-i.invariant c.loop-i-test.false

@@ -20,29 +20,29 @@ use Rattle.recorder.specs.declared.calls.Setting.{Setting}
 use Rattle.recorder.specs.declared.samples.Taking.{Taking}
 use Rattle.recorder.specs.declared.Recorder.{Recorder}
 
-module _ (r : Recorder) (buffer : List ℕ) (right : Bool) (is : right ≡ as_at_start r.profile (length buffer)) (other : not right ≡ true) where
+module _ (r : Recorder) (buffer : List ℕ) (right : Bool) (is : right ≡ as_at_start r.profile (length buffer)) (other : right ≡ false) where
   -- another length: a sample is refused, and nothing is written
   pub sample_14 : (bits : ℕ) → with_buffer (profile_buffer r) buffer ≡ sample_lent r bits buffer
   unfolding sample_lent
-  sample_14 bits = rw (sym is ∙ not-true right other)
+  sample_14 bits = rw (sym is ∙ other)
 
   -- and so is a run of samples
   pub run_14 : (bits : List ℕ) → with_buffer (record { taken = 0; number = 14; after = r }) buffer ≡ samples_lent r bits buffer
   unfolding samples_lent
-  run_14 bits = rw (sym is ∙ not-true right other)
+  run_14 bits = rw (sym is ∙ other)
 
   -- and a clock set
   pub set_14 : (time : ℕ) → with_buffer (profile_buffer r) buffer ≡ set_lent r time buffer
   unfolding set_lent
-  set_14 time = rw (sym is ∙ not-true right other)
+  set_14 time = rw (sym is ∙ other)
 
 module _ {Reply : Type 0} (r : Recorder) (buffer : List ℕ) (right : Bool) (is : right ≡ as_at_start r.profile (length buffer)) where
   -- that of the start: the records are put, and the reply has the profile after them
-  taken_lent : (refusal : Reply) (with-profile : Profile → Reply) (periods : List Period) (p : Profile) (buffer' : List ℕ) → not right ≡ false
+  taken_lent : (refusal : Reply) (with-profile : Profile → Reply) (periods : List Period) (p : Profile) (buffer' : List ℕ) → right ≡ true
       → kept p buffer' ≡ with_records (kept r.profile buffer) (records_of r.setup periods)
       → with_buffer (with-profile p) buffer' ≡ lent_to r buffer refusal (with-profile (moved_by r.profile (records_of r.setup periods))) periods
   taken_lent refusal with-profile periods p buffer' e put =
-      let whole = sym is ∙ not-false right e in
+      let whole = sym is ∙ e in
       let moved = ap (λ (k : Kept). k.profile) put ∙ moved_with r.profile buffer whole (records_of r.setup periods) in
       rw whole (ap₂ (λ (q : Profile) (b : List ℕ). with_buffer (with-profile q) b) moved (ap (λ (k : Kept). k.buffer) put))
 
@@ -50,7 +50,7 @@ module _ {Reply : Type 0} (r : Recorder) (buffer : List ℕ) (right : Bool) (is 
 abbrev with_moved : Recorder → State → Profile → Recorder
 with_moved r s p = record { config = r.config; setup = r.setup; state = s; profile = p }
 
-module _ (r : Recorder) (buffer : List ℕ) (right : Bool) (is : right ≡ as_at_start r.profile (length buffer)) (whole : not right ≡ false) where
+module _ (r : Recorder) (buffer : List ℕ) (right : Bool) (is : right ≡ as_at_start r.profile (length buffer)) (whole : right ≡ true) where
   -- a sample
   pub sample_lent_lem : (bits : ℕ) (t : Taking) (buffer' : List ℕ) → taken_said t ≡ reply_to r.state (sample_of r.config r.state bits)
       → kept t.profile buffer' ≡ with_records (kept r.profile buffer) (records_of r.setup (closed_by r.config (sample_of r.config r.state bits)))

@@ -27,17 +27,17 @@ refused_from setup length b time n offset e = rw e
 -- a start, from what the code found of the buffer's length and of the slots
 module _ (setup : Setup) (length : ℕ) (b : List ℕ) (time : ℕ) (legal : Bool) (is : legal ≡ legal_length length) where
   -- 14
-  pub start_14 : not legal ≡ true → no_start 14 0 ≡ start_reply setup length b time
+  pub start_14 : legal ≡ false → no_start 14 0 ≡ start_reply setup length b time
   unfolding start_reply
-  start_14 e = rw (sym is ∙ not-true legal e)
+  start_14 e = rw (sym is ∙ e)
 
-  module _ (fit : Bool) (right : not legal ≡ false) (fits : fit ≡ slots_fit setup.slots) where
+  module _ (fit : Bool) (right : legal ≡ true) (fits : fit ≡ slots_fit setup.slots) where
     -- 8
-    pub start_8 : not fit ≡ true → no_start 8 0 ≡ start_reply setup length b time
+    pub start_8 : fit ≡ false → no_start 8 0 ≡ start_reply setup length b time
     unfolding start_reply
-    start_8 e = rw (sym is ∙ not-false legal right, sym fits ∙ not-true fit e)
+    start_8 e = rw (sym is ∙ right, sym fits ∙ e)
 
     -- the image's own
-    pub start_on : not fit ≡ false → start_from (image_answer b) setup length (image_config b) time ≡ start_reply setup length b time
+    pub start_on : fit ≡ true → start_from (image_answer b) setup length (image_config b) time ≡ start_reply setup length b time
     unfolding start_reply
-    start_on e = rw (sym is ∙ not-false legal right, sym fits ∙ not-false fit e)
+    start_on e = rw (sym is ∙ right, sym fits ∙ e)

@@ -9,8 +9,7 @@ use Rattle.readout.specs.Answers.{block_answer, block_said}
 use Rattle.readout.specs.Blocks.{is_block}
 use Rattle.recorder.specs.Readout.{block_readout_reply}
 use borrow.Author.Rules.{rules}
-use Rattle.recorder.proofs.Recorder.block_readout.Statement.{statement}
-use Rattle.recorder.proofs.Recorder.block_readout.Tie as tie
+use Rattle.recorder.proofs.Recorder.block_readout.Goals as goal
 
 -- what the answer says of the block
 whole : (b : List ℕ) → given tt ≡ block_answer b → is_block b ≡ true
@@ -19,21 +18,16 @@ whole b e = by_test (is_block b) (λ t. t) (λ t. let g = rw t at e in cc)
 broken : (b : List ℕ) → refused 16 0 ≡ block_answer b → is_block b ≡ false
 broken b e = by_test (is_block b) (λ t. let g = rw t at e in cc) (λ t. t)
 
-returns : tie.Need-returns
+pub returns-in-Whole : goal.returns-in-Whole
 unfolding block_readout_reply
-returns c =
+returns-in-Whole c =
     let k = c.before in
-    let b = k.before.before in
-    c.readout.ensures ∙ rw (whole _ (sym (ap block_said k.enum_told.given.1) ∙ b.check-block.ensures))
+    let b = k.before in
+    c.readout.ensures ∙ rw (whole _ k.in-Whole.ensures)
 
-returns_2 : tie.Need-returns-2
+pub returns-in-Block : goal.returns-in-Block
 unfolding block_readout_reply
-returns_2 c =
+returns-in-Block c =
     let k = c.before in
-    let b = k.before.before in
-    rw (c.not-booked.ensures, broken _ (sym (ap block_said k.enum-told2.given.1) ∙ b.check-block.ensures))
-
-pub block_readout_spec : {M : Type 1} → statement M
-block_readout_spec =
-    tie.close
-    (tie.spec (λ c κs. search rules) (λ c. search rules) (λ c κs. search rules) (λ c. search rules) (λ c κs. search rules) returns returns_2)
+    let b = k.before in
+    rw (c.not_booked.ensures, broken _ k.in-Block.ensures)

@@ -1,0 +1,6 @@
+-- `recorder::refuse_start` meets its contract.
+use borrow.Author.Rules.{rules}
+use Rattle.recorder.proofs.refuse_start.Goals as goal
+
+pub returns : goal.returns
+returns c = rw c.blank_recorder-recorder.ensures

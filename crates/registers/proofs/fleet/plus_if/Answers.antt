@@ -8,8 +8,7 @@ use mir.Syntax.{w32, w64}
 use mir.Val.{SFits, to_z, of_z}
 use mir.Facts.{to_z-of_z, sfits_widen}
 use Rattle.laws.proofs.SignedTotal.{abs_add, abs_fits}
-use Rattle.registers.proofs.fleet.plus_if.Statement.{statement}
-use Rattle.registers.proofs.fleet.plus_if.Tie as tie
+use Rattle.registers.proofs.fleet.plus_if.Goals as goal
 
 module _ (sum value : ℤ) (s : SFits w64 sum) (v : SFits w32 value) (near : nat_abs sum ≤ 2 ^ 62) where
   -- the sum is at most 2 ^ 31 further from 0
@@ -24,29 +23,21 @@ module _ (sum value : ℤ) (s : SFits w64 sum) (v : SFits w32 value) (near : nat
   plus_is : to_z w64 (of_z w64 sum) +ℤ to_z w64 (of_z w64 (to_z w32 (of_z w32 value))) ≡ sum +ℤ value
   plus_is = simp (to_z-of_z s, to_z-of_z v, to_z-of_z (sfits_widen {w' = w64} tt v))
 
-cast_result : tie.Need-overflow-cast-result
-cast_result c = rw (to_z-of_z c.before.ranges.value) (sfits_widen tt c.before.ranges.value)
+pub overflow_cast-result : goal.overflow_cast-result
+overflow_cast-result c = rw (to_z-of_z c.ranges.value) (sfits_widen tt c.ranges.value)
 
-add_result : tie.Need-overflow-add-result
-add_result c =
-    let a = c.before.args in
-    let f = c.before.ranges in
-    rw (plus_is a.sum a.value f.sum f.value c.before.requires) (sum_fits a.sum a.value f.sum f.value c.before.requires)
+pub overflow_add-result : goal.overflow_add-result
+overflow_add-result c =
+    let a = c.args in
+    let f = c.ranges in
+    rw (plus_is a.sum a.value f.sum f.value c.requires) (sum_fits a.sum a.value f.sum f.value c.requires)
 
-returns : tie.Need-returns
-returns c =
-    let a = c.before.args in
-    let f = c.before.ranges in
-    simp (plus_is a.sum a.value f.sum f.value c.before.requires, to_z-of_z (sum_fits a.sum a.value f.sum f.value c.before.requires), c.if1.true)
-    (refl, sum_near a.sum a.value f.sum f.value c.before.requires)
+pub returns-then-wanted : goal.returns-then-wanted
+returns-then-wanted c =
+    let a = c.args in
+    let f = c.ranges in
+    simp (plus_is a.sum a.value f.sum f.value c.requires, to_z-of_z (sum_fits a.sum a.value f.sum f.value c.requires), c.if-wanted.true)
+    (refl, sum_near a.sum a.value f.sum f.value c.requires)
 
-returns_2 : tie.Need-returns-2
-returns_2 c = simp (to_z-of_z c.before.ranges.sum, c.if1.false) (sym (+ℤ_idr _), omega arith)
-
-pub plus_if_spec : {M : Type 1} → statement M
-plus_if_spec = tie.close
-    (tie.spec
-    cast_result
-    add_result
-    returns
-    returns_2)
+pub returns-else-wanted : goal.returns-else-wanted
+returns-else-wanted c = simp (to_z-of_z c.ranges.sum, c.if-wanted.false) (sym (+ℤ_idr _), omega arith)

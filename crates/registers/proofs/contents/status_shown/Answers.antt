@@ -7,8 +7,7 @@ use borrow.Author.Tests.{eq-eqb, ne_eqb}
 use lib.Bits.{bit_or, or_step, or_zero_r}
 use lib.Dec.{lit<}
 use Rattle.registers.specs.Contents.{with_iv, status_shown}
-use Rattle.registers.proofs.contents.status_shown.Statement.{statement}
-use Rattle.registers.proofs.contents.status_shown.Tie as tie
+use Rattle.registers.proofs.contents.status_shown.Goals as goal
 
 or_one : (s : ℕ) → bit_or s 1 ≡ with_iv s
 or_one s = or_step s 1 ∙ rw (or_zero_r, one_max (s % 2) (mod-lt s (lit< tt)))
@@ -16,16 +15,10 @@ or_one s = or_step s 1 ∙ rw (or_zero_r, one_max (s % 2) (mod-lt s (lit< tt)))
     one_max : (x : ℕ) → x < 2 → max x 1 ≡ 1
     one_max x h = omega arith
 
-returns : tie.Need-returns
+pub returns-then-class-eq-AWAKE : goal.returns-then-class-eq-AWAKE
 unfolding status_shown
-returns c = simp (eq-eqb _ _ c.if1.true)
+returns-then-class-eq-AWAKE c = simp (eq-eqb _ _ c.if-class-eq-AWAKE.true)
 
-returns_2 : tie.Need-returns-2
+pub returns : goal.returns
 unfolding status_shown
-returns_2 c = simp (ne_eqb _ _ c.if1.false) (or_one c.before.args.status)
-
-pub status_shown_spec : {M : Type 1} → statement M
-status_shown_spec = tie.close
-    (tie.spec
-    returns
-    returns_2)
+returns c = simp (ne_eqb _ _ c.if-class-eq-AWAKE.false) (or_one c.args.status)

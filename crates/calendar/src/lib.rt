@@ -1,5 +1,6 @@
 // The calendar, lowest layer of the recorder: leap years, month lengths, days that exist, and the moment of a second of the clock.
 #![tactic(auto)]
+
 ghost use Rattle.std.specs.Prelude.{◌≡◌, ◌<◌};
 ghost use Rattle.calendar.specs.Dates.{leap_year, month_length, day_exists, exists_in_some_year};
 ghost use Rattle.calendar.specs.Moments.{dated_said, year_day, moment_at, moment_of};

@@ -37,6 +37,7 @@ pub fn is_leap(year: u16) -> bool
 }
 
 // The days of a month, January being 1; 0 for a number that is no month's. Up to July the odd months have 31 days; from August on, where month / 8 is 1, the even ones.
+#[tactic(auto, using(crate::proofs::Months::no_month))]
 pub fn month_length(year: u16, month: u8) -> u8
     ensures { result ≡ month_length year month }
 {

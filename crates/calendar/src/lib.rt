@@ -1,5 +1,6 @@
 // The calendar, lowest layer of the recorder: leap years, month lengths, days that exist, and the moment of a second of the clock.
 #![tactic(auto)]
+
 ghost use Rattle.std.specs.Prelude.{◌≡◌, ◌<◌};
 ghost use Rattle.calendar.specs.Dates.{leap_year, month_length, day_exists, exists_in_some_year};
 ghost use Rattle.calendar.specs.Moments.{dated_said, year_day, moment_at, moment_of};
@@ -36,6 +37,7 @@ pub fn is_leap(year: u16) -> bool
 }
 
 // The days of a month, January being 1; 0 for a number that is no month's. Up to July the odd months have 31 days; from August on, where month / 8 is 1, the even ones.
+#[tactic(auto, using(crate::proofs::Months::no_month))]
 pub fn month_length(year: u16, month: u8) -> u8
     ensures { result ≡ month_length year month }
 {

@@ -1,5 +1,6 @@
 // What samples come to: impulses, units, bills and the values of level 9.
 #![tactic(auto)]
+
 pub mod bills;
 pub mod filter;
 pub mod levels;

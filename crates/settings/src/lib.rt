@@ -1,5 +1,6 @@
 // The configuration: typed, and checked by one rule.
 #![tactic(auto)]
+
 mod rules;
 
 ghost use Rattle.std.specs.Prelude.{◌≡◌, ◌+◌, ◌*◌, ◌<◌};

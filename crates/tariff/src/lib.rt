@@ -1,5 +1,6 @@
 // The tariff program: daily and weekly rules, holidays, seasons, and the tariff rules in force. It knows the calendar by its promises alone.
 #![tactic(auto)]
+
 mod daily;
 mod masks;
 mod rules;

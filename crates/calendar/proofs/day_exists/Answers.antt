@@ -1,5 +1,4 @@
 -- `calendar::day_exists` meets its contract: the month's length is what its function ensures.
-use borrow.Author.Rules.{rules}
 use Rattle.calendar.proofs.day_exists.Goals as goal
 
 pub returns : goal.returns

@@ -1,5 +1,4 @@
 -- `calendar::exists_in_some_year` meets its contract: what the call ensures of the year 2000.
-use borrow.Author.Rules.{rules}
 use Rattle.calendar.proofs.exists_in_some_year.Goals as goal
 
 pub returns : goal.returns

@@ -1,8 +1,7 @@
 -- `calendar::moment_of` meets its contract. The loop's invariant: the days before this month and those left are the year's.
 use mathlib.Core.Path.{◌≡◌, ap, ◌∙◌}
-use Prim.Native.Nat.{◌+◌, ◌-◌, ◌/◌, ◌≤◌, ◌<◌}
+use Prim.Native.Nat.{◌+◌, ◌/◌, ◌<◌}
 use native.Mathlib.Omega.{arith}
-use borrow.Author.Rules.{rules}
 use Rattle.laws.specs.Total.{total}
 use Rattle.laws.proofs.Total.{total_more}
 use Rattle.laws.specs.Answers.{given}

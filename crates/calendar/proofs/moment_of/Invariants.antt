@@ -1,17 +1,12 @@
 -- `calendar::moment_of` meets its contract. The loop's invariant: the days before this month and those left are the year's.
-use mathlib.Core.Path.{◌≡◌, ap, ◌∙◌}
-use Prim.Native.Nat.{◌+◌, ◌-◌, ◌/◌, ◌≤◌, ◌<◌}
-use native.Mathlib.Omega.{arith}
-use borrow.Author.Rules.{rules}
+use mathlib.Core.Path.{◌≡◌}
+use Prim.Native.Nat.{◌+◌, ◌-◌, ◌≤◌}
 use Rattle.laws.specs.Total.{total}
-use Rattle.laws.proofs.Total.{total_more}
-use Rattle.laws.specs.Answers.{given}
 use Rattle.calendar.specs.Dates.{month_length}
-use Rattle.calendar.proofs.Months.{year_below, left_below, month_is}
 use Rattle.calendar.proofs.moment_of.Given as goal
 
 abbrev pub invariant-loop-month : goal.invariant-loop-month
-invariant-loop-month l =  (1 ≤ l.month) × (l.month ≤ 13) × (total l.month (month_length l.year) + l.left ≡ l.initial.left)
+invariant-loop-month l = (1 ≤ l.month) × (l.month ≤ 13) × (total l.month (month_length l.year) + l.left ≡ l.initial.left)
 
 abbrev pub decreases-loop-month : goal.decreases-loop-month
-decreases-loop-month l =  13 - l.month
+decreases-loop-month l = 13 - l.month

@@ -4,13 +4,11 @@ use mathlib.Core.Bool.{true, false}
 use mathlib.Core.List.{◌∷◌}
 use Prim.Native.Nat.{ℕ, suc, ◌≤◌}
 use native.Mathlib.Omega.{arith}
-use borrow.Author.Rules.{rules}
 use borrow.Author.Tests.{ne_eqb, eqb-true, eqb-false}
 use lib.Dec.{eqb}
 use lib.ListN.{get_or}
 use Rattle.laws.proofs.Tests.{by_test}
 use Rattle.calendar.specs.Dates.{leap_year, common_lengths, month_length}
-use Rattle.calendar.proofs.Months.{no_month}
 use Rattle.calendar.proofs.month_length.Goals as goal
 
 -- February of a leap year
@@ -42,9 +40,6 @@ month_by_month m h l a1 a2 a3 a4 a5 a6 a7 a8 a9 a10 a11 a12 =
 pub returns-then-month-eq0 : goal.returns-then-month-eq0
 unfolding month_length
 returns-then-month-eq0 c = rw c.if-month-eq0.true
-
-pub returns-then-month-gt12 : goal.returns-then-month-gt12
-returns-then-month-gt12 c = no_month _ _ (omega arith)
 
 pub returns-then-is_leap : goal.returns-then-is_leap
 returns-then-is_leap c = leap_february _ _ c.if-month-eq2.true (rw c.is_leap.ensures at c.if-is_leap.true)

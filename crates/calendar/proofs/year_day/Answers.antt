@@ -1,7 +1,6 @@
 -- `calendar::year_day` meets its contract: the year that the arithmetic finds holds the day.
 use mathlib.Core.Path.{refl}
 use native.Mathlib.Omega.{arith}
-use borrow.Author.Rules.{rules}
 use Rattle.calendar.proofs.Years.{year_begun, year_found}
 use Rattle.calendar.proofs.year_day.Goals as goal
 

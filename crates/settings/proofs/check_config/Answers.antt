@@ -1,7 +1,6 @@
 -- `settings::check_config` meets its contract: the verdicts of the sections, one before another.
 use mathlib.Core.Path.{refl, ap, ◌∙◌}
 use mathlib.Core.Bool.{true}
-use lib.Dec.{lit≤}
 use Rattle.laws.specs.Masks.{bit_at}
 use Rattle.laws.proofs.Broken.{never_broken}
 use Rattle.settings.specs.Check.{sections, first_bad, checked}

@@ -1,13 +1,9 @@
 -- `counting::bills::add_units` meets its contract. The loop's invariant: the totals before k have the units added.
 use mathlib.Core.Path.{◌≡◌}
-use Prim.Native.Nat.{◌+◌, ◌-◌, ◌≤◌}
 use native.Mathlib.Nat.{le_refl}
 use native.Mathlib.Omega.{arith}
 use borrow.Author.Rules.{rules}
-use lib.ListN.{get_or}
-use Rattle.laws.specs.If.{if◌then◌else◌}
-use Rattle.laws.specs.Masks.{bit_at}
-use Rattle.laws.proofs.Tables.{fill_to, fill_none, fill_more, fill_done, fill_rest}
+use Rattle.laws.proofs.Tables.{fill_none, fill_more, fill_done, fill_rest}
 use Rattle.counting.specs.Bills.{unit_at}
 use Rattle.counting.specs.ByMask.{added_units}
 use Rattle.counting.proofs.bills.add_units.Goals as goal
@@ -25,8 +21,7 @@ pub overflow_add-totals : goal.overflow_add-totals
 overflow_add-totals c = omega (arith, kept c, c.requires.1 c.loop-k.k, c.part.ensures.1)
 
 pub loop-k-preserved : goal.loop-k-preserved
-loop-k-preserved c =
- (
+loop-k-preserved c = (
   omega arith,
   fill_more _ _ _ _ _ c.loop-k.invariant.1 (rw (kept c, c.part.ensures.0, c.bit_at.ensures)),
 )

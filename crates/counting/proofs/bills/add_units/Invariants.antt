@@ -1,15 +1,11 @@
 -- `counting::bills::add_units` meets its contract. The loop's invariant: the totals before k have the units added.
 use mathlib.Core.Path.{◌≡◌}
 use Prim.Native.Nat.{◌+◌, ◌-◌, ◌≤◌}
-use native.Mathlib.Nat.{le_refl}
-use native.Mathlib.Omega.{arith}
-use borrow.Author.Rules.{rules}
 use lib.ListN.{get_or}
 use Rattle.laws.specs.If.{if◌then◌else◌}
 use Rattle.laws.specs.Masks.{bit_at}
-use Rattle.laws.proofs.Tables.{fill_to, fill_none, fill_more, fill_done, fill_rest}
+use Rattle.laws.proofs.Tables.{fill_to}
 use Rattle.counting.specs.Bills.{unit_at}
-use Rattle.counting.specs.ByMask.{added_units}
 use Rattle.counting.proofs.bills.add_units.Given as goal
 
 abbrev pub invariant-loop-k : goal.invariant-loop-k
@@ -17,4 +13,4 @@ invariant-loop-k l =
     (l.k ≤ 8) × (l.totals ≡ fill_to (λ k. unit_at l.initial.totals k + (if bit_at (get_or l.sums k 0) l.i then l.units else 0)) l.k l.initial.totals)
 
 abbrev pub decreases-loop-k : goal.decreases-loop-k
-decreases-loop-k l =  8 - l.k
+decreases-loop-k l = 8 - l.k

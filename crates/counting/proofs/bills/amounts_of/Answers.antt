@@ -1,10 +1,8 @@
 -- `counting::bills::amounts_of` meets its contract. The loop's invariant: the amounts of the bills before j.
-use mathlib.Core.Path.{◌≡◌, refl}
-use Prim.Native.Nat.{◌-◌, ◌≤◌}
+use mathlib.Core.Path.{refl}
 use native.Mathlib.Omega.{arith}
 use borrow.Author.Rules.{rules}
-use Rattle.laws.proofs.Tables.{fill_to, fill_none, fill_more, fill_done}
-use Rattle.counting.specs.Bills.{bill_at}
+use Rattle.laws.proofs.Tables.{fill_none, fill_more, fill_done}
 use Rattle.counting.specs.ByMask.{amounts_of}
 use Rattle.counting.proofs.bills.amounts_of.Goals as goal
 

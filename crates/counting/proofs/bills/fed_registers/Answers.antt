@@ -1,13 +1,12 @@
 -- `counting::bills::fed_registers` meets its contract. The loop's invariant: the mask of the places before i.
 use mathlib.Core.Path.{◌≡◌, ap}
 use mathlib.Core.Bool.{Bool, ◌&&◌, ◌||◌}
-use Prim.Native.Nat.{ℕ, ◌-◌, ◌≤◌}
+use Prim.Native.Nat.{ℕ}
 use native.Mathlib.Omega.{arith}
 use lib.Dec.{ltb, eqb}
 use borrow.Author.Rules.{rules}
-use Rattle.laws.specs.Masks.{mask_of}
 use Rattle.laws.proofs.Masks.{mask_none, mask_more, mask_below, mask_done}
-use Rattle.counting.specs.Bills.{register_at, feeds}
+use Rattle.counting.specs.Bills.{register_at}
 use Rattle.counting.specs.ByMask.{fed_registers}
 use Rattle.counting.proofs.bills.fed_registers.Goals as goal
 

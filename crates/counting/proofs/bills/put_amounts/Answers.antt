@@ -1,11 +1,9 @@
 -- `counting::bills::put_amounts` meets its contract. The loop's invariant: the bills before j have their amounts.
-use mathlib.Core.Path.{◌≡◌, refl}
-use Prim.Native.Nat.{◌-◌, ◌≤◌}
+use mathlib.Core.Path.{refl}
 use native.Mathlib.Omega.{arith}
 use borrow.Author.Rules.{rules}
 use Rattle.laws.proofs.Arrays.{length_mapped}
-use Rattle.laws.proofs.Tables.{fill_to, fill_none, fill_more, fill_done}
-use Rattle.counting.specs.Bills.{bill_at, unit_at, with_amount}
+use Rattle.laws.proofs.Tables.{fill_none, fill_more, fill_done}
 use Rattle.counting.specs.ByMask.{with_amounts}
 use Rattle.counting.proofs.bills.put_amounts.Goals as goal
 

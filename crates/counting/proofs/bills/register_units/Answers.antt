@@ -1,6 +1,5 @@
 -- `counting::bills::register_units` meets its contract.
 use borrow.Author.Tests.{lt-ltb, le-ltb}
-use borrow.Author.Rules.{rules}
 use Rattle.counting.specs.Bills.{register_units}
 use Rattle.counting.proofs.bills.register_units.Goals as goal
 

@@ -1,11 +1,10 @@
 -- `counting::bills::some_full` meets its contract. The loop's invariant: of the registers that are no more in `left` none would be full.
-use mathlib.Core.Path.{◌≡◌, sym, ◌∙◌}
-use Prim.Native.Nat.{◌<◌, ◌≤◌, ◌^◌}
+use mathlib.Core.Path.{sym, ◌∙◌}
 use native.Mathlib.Omega.{arith}
 use borrow.Author.Rules.{rules}
-use lib.Count.{count_trailing_zeros, trailing_le}
-use Rattle.laws.proofs.Sparse.{Looked, look_start, look_turn, look_found, look_done, lowest_below, drop_less}
-use Rattle.counting.proofs.Full.{filled_at, full_of_fed}
+use lib.Count.{trailing_le}
+use Rattle.laws.proofs.Sparse.{look_start, look_turn, look_found, look_done, lowest_below, drop_less}
+use Rattle.counting.proofs.Full.{full_of_fed}
 use Rattle.counting.proofs.bills.some_full.Goals as goal
 
 pub loop-left-init : goal.loop-left-init

@@ -1,13 +1,8 @@
 -- `counting::bills::sum_units` meets its contract. The loop's invariant: the units of the inputs before i that are named, each of 32 bits.
-use mathlib.Core.Path.{◌≡◌}
-use Prim.Native.Nat.{◌-◌, ◌*◌, ◌≤◌}
 use native.Mathlib.Omega.{arith}
 use borrow.Author.Rules.{rules}
-use Rattle.laws.specs.If.{if◌then◌else◌}
-use Rattle.laws.specs.Masks.{bit_at}
-use Rattle.laws.specs.Total.{total}
 use Rattle.laws.proofs.Total.{total_none, total_turn, total_done}
-use Rattle.counting.specs.Bills.{unit_at, sum_of}
+use Rattle.counting.specs.Bills.{sum_of}
 use Rattle.counting.proofs.bills.sum_units.Goals as goal
 
 pub loop-i-init : goal.loop-i-init

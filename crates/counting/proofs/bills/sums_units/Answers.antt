@@ -1,12 +1,10 @@
 -- `counting::bills::sums_units` meets its contract. The loop's invariant: the totals are the sums' units of the inputs of the mask that are no more in `left`.
-use mathlib.Core.Path.{◌≡◌, ◌∙◌}
-use Prim.Native.Nat.{◌<◌, ◌≤◌, ◌^◌}
+use mathlib.Core.Path.{◌∙◌}
 use native.Mathlib.Omega.{arith}
 use borrow.Author.Rules.{rules}
-use lib.Count.{count_trailing_zeros, trailing_le}
-use Rattle.counting.specs.Bills.{unit_at, sums_of}
-use Rattle.laws.proofs.Sparse.{Half, lowest_below, drop_less}
-use Rattle.counting.proofs.Sums.{units_past, sums_start, past_start, past_turn, sums_turn, sums_done, sums_long, sums_below}
+use lib.Count.{trailing_le}
+use Rattle.laws.proofs.Sparse.{lowest_below, drop_less}
+use Rattle.counting.proofs.Sums.{sums_start, past_start, past_turn, sums_turn, sums_done, sums_long, sums_below}
 use Rattle.counting.proofs.bills.sums_units.Goals as goal
 
 pub loop-left-init : goal.loop-left-init

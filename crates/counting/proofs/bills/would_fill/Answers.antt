@@ -2,7 +2,6 @@
 use Prim.Native.Nat.{◌+◌, ◌<◌}
 use native.Mathlib.Omega.{arith}
 use borrow.Author.Tests.{lt-ltb}
-use borrow.Author.Rules.{rules}
 use Rattle.counting.proofs.bills.would_fill.Goals as goal
 
 pub returns-then-due-gt999999999 : goal.returns-then-due-gt999999999

@@ -1,5 +1,4 @@
 -- `counting::filter::next_run` meets its contract.
-use borrow.Author.Rules.{rules}
 use borrow.Author.Tests.{lt-ltb, le-ltb}
 use Rattle.counting.proofs.filter.next_run.Goals as goal
 

@@ -1,6 +1,5 @@
 -- `counting::filter::one_more_lem` meets its contract.
 use borrow.Author.Tests.{lt-ltb, le-ltb}
-use borrow.Author.Rules.{rules}
 use Rattle.counting.proofs.filter.one_more.Goals as goal
 
 pub returns-then-count-lt65535 : goal.returns-then-count-lt65535

@@ -1,12 +1,8 @@
 -- `counting::filter::running_lines` meets its contract. The loop's invariant: the mask of the places before i.
-use mathlib.Core.Path.{◌≡◌, refl}
-use Prim.Native.Nat.{◌-◌, ◌≤◌}
+use mathlib.Core.Path.{refl}
 use native.Mathlib.Omega.{arith}
-use lib.Dec.{ltb}
 use borrow.Author.Rules.{rules}
-use Rattle.laws.specs.Masks.{mask_of}
 use Rattle.laws.proofs.Masks.{mask_none, mask_more, mask_below, mask_done}
-use Rattle.counting.specs.Filter.{line_at}
 use Rattle.counting.specs.ByMask.{running_lines}
 use Rattle.counting.proofs.filter.running_lines.Goals as goal
 

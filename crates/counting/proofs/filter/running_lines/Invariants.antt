@@ -1,17 +1,13 @@
 -- `counting::filter::running_lines` meets its contract. The loop's invariant: the mask of the places before i.
-use mathlib.Core.Path.{◌≡◌, refl}
+use mathlib.Core.Path.{◌≡◌}
 use Prim.Native.Nat.{◌-◌, ◌≤◌}
-use native.Mathlib.Omega.{arith}
 use lib.Dec.{ltb}
-use borrow.Author.Rules.{rules}
 use Rattle.laws.specs.Masks.{mask_of}
-use Rattle.laws.proofs.Masks.{mask_none, mask_more, mask_below, mask_done}
 use Rattle.counting.specs.Filter.{line_at}
-use Rattle.counting.specs.ByMask.{running_lines}
 use Rattle.counting.proofs.filter.running_lines.Given as goal
 
 abbrev pub invariant-loop-i : goal.invariant-loop-i
-invariant-loop-i l =  (l.i ≤ 16) × (l.mask ≡ mask_of l.i (λ k. ltb 0 (line_at l.lines k).run))
+invariant-loop-i l = (l.i ≤ 16) × (l.mask ≡ mask_of l.i (λ k. ltb 0 (line_at l.lines k).run))
 
 abbrev pub decreases-loop-i : goal.decreases-loop-i
-decreases-loop-i l =  16 - l.i
+decreases-loop-i l = 16 - l.i

@@ -1,8 +1,8 @@
 -- `counting::levels::function_value` meets its contract. The loop's invariant: the value, read from its bits, is the sum of the terms before k, at most 2 ^ 44 from 0 for each.
 use mathlib.Core.Path.{◌≡◌, ◌∙◌}
-use Prim.Native.Nat.{ℕ, ◌+◌, ◌-◌, ◌*◌, ◌^◌, ◌≤◌}
+use Prim.Native.Nat.{◌+◌, ◌*◌, ◌^◌, ◌≤◌}
 use native.Mathlib.Omega.{arith}
-use lib.IntN.{pos, nat_abs, ◌*ℤ◌}
+use lib.IntN.{pos, nat_abs}
 use lib.ListN.{get_or}
 use mir.Syntax.{w8, w64}
 use mir.Val.{SFits, to_z, of_z}
@@ -10,7 +10,6 @@ use mir.Facts.{to_z-of_z}
 use borrow.Author.Tests.{lt-ltb, le-ltb}
 use borrow.Author.Rules.{rules}
 use Rattle.laws.proofs.Arrays.{elem_sfits}
-use Rattle.laws.specs.SignedTotal.{totalℤ}
 use Rattle.laws.proofs.SignedTotal.{abs_fits, totalℤ-none, totalℤ-turn, totalℤ-done}
 use Rattle.counting.specs.Bills.{sum_at}
 use Rattle.counting.specs.Levels.{level2, function_value}

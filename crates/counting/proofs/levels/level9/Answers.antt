@@ -1,6 +1,5 @@
 -- `counting::levels::level9` meets its contract: the two calls in a row.
 use mathlib.Core.Path.{ap, ◌∙◌}
-use borrow.Author.Rules.{rules}
 use Rattle.counting.specs.Levels.{slot_values}
 use Rattle.counting.proofs.levels.level9.Goals as goal
 

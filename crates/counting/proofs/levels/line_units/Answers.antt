@@ -1,10 +1,8 @@
 -- `counting::levels::line_units` meets its contract. The loop's invariant: level 0 of the inputs before i.
-use mathlib.Core.Path.{◌≡◌, refl}
-use Prim.Native.Nat.{◌-◌, ◌≤◌}
+use mathlib.Core.Path.{refl}
 use native.Mathlib.Omega.{arith}
 use borrow.Author.Rules.{rules}
-use Rattle.laws.proofs.Tables.{fill_to, fill_none, fill_more, fill_done}
-use Rattle.counting.specs.Filter.{line_at}
+use Rattle.laws.proofs.Tables.{fill_none, fill_more, fill_done}
 use Rattle.counting.specs.Levels.{level0}
 use Rattle.counting.proofs.levels.line_units.Goals as goal
 

@@ -1,7 +1,6 @@
 -- `counting::levels::plus_times` meets its contract: the laws of proofs/Signed.antt at its three numbers.
 use mathlib.Core.Path.{refl}
 use mir.Facts.{to_z-of_z, sfits_widen}
-use borrow.Author.Rules.{rules}
 use Rattle.counting.proofs.Signed.{product_fits, sum_fits, sum_near, times_is, plus_is}
 use Rattle.counting.proofs.levels.plus_times.Goals as goal
 

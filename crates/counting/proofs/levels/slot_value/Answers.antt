@@ -4,7 +4,6 @@ use mir.Syntax.{w64}
 use mir.Facts.{to_z-of_z}
 use borrow.Author.Rules.{sfits_of}
 use borrow.Author.Tests.{eq-eqb, ne_eqb}
-use borrow.Author.Rules.{rules}
 use Rattle.counting.specs.Levels.{slot_value}
 use Rattle.counting.proofs.levels.slot_value.Goals as goal
 

@@ -1,14 +1,12 @@
 -- `counting::levels::slot_values` meets its contract. The loop's invariant: the values before i stand in their places.
-use mathlib.Core.Path.{◌≡◌, refl, ◌∙◌}
-use Prim.Native.Nat.{◌-◌, ◌≤◌}
+use mathlib.Core.Path.{refl, ◌∙◌}
 use native.Mathlib.Omega.{arith}
-use lib.ListN.{get_or}
 use mir.Syntax.{w64}
 use mir.Facts.{to_z-of_z}
 use borrow.Author.Rules.{sfits_of}
 use borrow.Author.Rules.{rules}
-use Rattle.laws.proofs.Tables.{fill_to, fill_none, fill_more, fill_done}
-use Rattle.counting.specs.Levels.{slot_value, slot_values}
+use Rattle.laws.proofs.Tables.{fill_none, fill_more, fill_done}
+use Rattle.counting.specs.Levels.{slot_values}
 use Rattle.counting.proofs.levels.slot_values.Goals as goal
 
 pub loop-i-init : goal.loop-i-init

@@ -3,7 +3,6 @@ use native.Mathlib.Omega.{arith}
 use mir.Syntax.{w64}
 use mir.Facts.{to_z_pos}
 use borrow.Author.Tests.{lt-ltb, le-ltb}
-use borrow.Author.Rules.{rules}
 use Rattle.counting.specs.Bills.{sum_at}
 use Rattle.counting.specs.Levels.{sum_value}
 use Rattle.counting.proofs.levels.sum_value.Goals as goal

@@ -1,6 +1,5 @@
 -- `counting::units::held_sum` meets its contract.
 use borrow.Author.Tests.{lt-ltb, le-ltb}
-use borrow.Author.Rules.{rules}
 use Rattle.counting.proofs.units.held_sum.Goals as goal
 
 pub returns-then-sum-gt4294967295 : goal.returns-then-sum-gt4294967295

@@ -1,5 +1,4 @@
 -- `counting::units::settle` meets its contract: remainder, units and count are what the calls ensure.
-use borrow.Author.Rules.{rules}
 use Rattle.counting.specs.Units.{credited}
 use Rattle.counting.specs.ByMask.{settled, settled_units}
 use Rattle.counting.proofs.units.settle.Goals as goal

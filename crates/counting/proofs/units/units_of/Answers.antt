@@ -1,6 +1,5 @@
 -- `counting::units::units_of` meets its contract.
 use borrow.Author.Tests.{eq-eqb, ne_eqb}
-use borrow.Author.Rules.{rules}
 use Rattle.counting.specs.Units.{units_of}
 use Rattle.counting.proofs.units.units_of.Goals as goal
 

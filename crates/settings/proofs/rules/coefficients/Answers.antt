@@ -1,8 +1,6 @@
 -- `settings::rules::coefficients` meets its contract. The loop's invariant: no entry before i breaks its rule.
 use mathlib.Core.Path.{◌≡◌, sym, ◌∙◌}
-use Prim.Native.Nat.{ℕ, ◌-◌}
-use borrow.Author.Rules.{rules}
-use borrow.Author.Tests.{not-true, not-false}
+use Prim.Native.Nat.{ℕ}
 use lib.ListN.{get_or}
 use lib.IntN.{pos}
 use mir.Syntax.{w8}
@@ -12,7 +10,7 @@ use mathlib.Core.List.{List}
 use mathlib.Core.Bool.{Bool}
 use lib.IntN.{ℤ}
 use Rattle.laws.proofs.Arrays.{elem_sfits}
-use Rattle.laws.proofs.Broken.{Kept, kept_none, kept_more, kept_broken, kept_all}
+use Rattle.laws.proofs.Broken.{kept_none, kept_more, kept_broken, kept_all}
 use Rattle.settings.specs.Rules.{coefficient_good}
 use Rattle.settings.proofs.rules.coefficients.Goals as goal
 

@@ -1,20 +1,13 @@
 -- `settings::rules::coefficients` meets its contract. The loop's invariant: no entry before i breaks its rule.
-use mathlib.Core.Path.{◌≡◌, sym, ◌∙◌}
 use Prim.Native.Nat.{ℕ, ◌-◌}
-use borrow.Author.Rules.{rules}
-use borrow.Author.Tests.{not-true, not-false}
 use lib.ListN.{get_or}
 use lib.IntN.{pos}
-use mir.Syntax.{w8}
-use mir.Val.{SFits}
-use mir.Facts.{to_z-of_z}
-use Rattle.laws.proofs.Arrays.{elem_sfits}
-use Rattle.laws.proofs.Broken.{Kept, kept_none, kept_more, kept_broken, kept_all}
+use Rattle.laws.proofs.Broken.{Kept}
 use Rattle.settings.specs.Rules.{coefficient_good}
 use Rattle.settings.proofs.rules.coefficients.Given as goal
 
 abbrev pub invariant-loop-i : goal.invariant-loop-i
-invariant-loop-i l =  Kept 32 (λ (j : ℕ). coefficient_good (get_or l.xs j (pos 0))) l.i
+invariant-loop-i l = Kept 32 (λ (j : ℕ). coefficient_good (get_or l.xs j (pos 0))) l.i
 
 abbrev pub decreases-loop-i : goal.decreases-loop-i
-decreases-loop-i l =  32 - l.i
+decreases-loop-i l = 32 - l.i

@@ -6,7 +6,7 @@ use Rattle.settings.specs.Rules.{holiday_good, zero_holiday}
 use Rattle.settings.proofs.rules.holidays.Given as goal
 
 abbrev pub invariant-loop-i : goal.invariant-loop-i
-invariant-loop-i l =  Kept 32 (λ (j : ℕ). holiday_good (get_or l.xs j zero_holiday)) l.i
+invariant-loop-i l = Kept 32 (λ (j : ℕ). holiday_good (get_or l.xs j zero_holiday)) l.i
 
 abbrev pub decreases-loop-i : goal.decreases-loop-i
-decreases-loop-i l =  32 - l.i
+decreases-loop-i l = 32 - l.i

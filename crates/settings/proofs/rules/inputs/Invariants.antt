@@ -6,7 +6,7 @@ use Rattle.settings.specs.Rules.{input_good, zero_input}
 use Rattle.settings.proofs.rules.inputs.Given as goal
 
 abbrev pub invariant-loop-i : goal.invariant-loop-i
-invariant-loop-i l =  Kept 16 (λ (j : ℕ). input_good (get_or l.xs j zero_input)) l.i
+invariant-loop-i l = Kept 16 (λ (j : ℕ). input_good (get_or l.xs j zero_input)) l.i
 
 abbrev pub decreases-loop-i : goal.decreases-loop-i
-decreases-loop-i l =  16 - l.i
+decreases-loop-i l = 16 - l.i

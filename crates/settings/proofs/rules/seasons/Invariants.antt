@@ -6,7 +6,7 @@ use Rattle.settings.specs.Rules.{season_good, zero_season}
 use Rattle.settings.proofs.rules.seasons.Given as goal
 
 abbrev pub invariant-loop-i : goal.invariant-loop-i
-invariant-loop-i l =  Kept 8 (λ (j : ℕ). season_good (get_or l.xs j zero_season)) l.i
+invariant-loop-i l = Kept 8 (λ (j : ℕ). season_good (get_or l.xs j zero_season)) l.i
 
 abbrev pub decreases-loop-i : goal.decreases-loop-i
-decreases-loop-i l =  8 - l.i
+decreases-loop-i l = 8 - l.i

@@ -7,7 +7,7 @@ use Rattle.settings.specs.Rules.{sum_good}
 use Rattle.settings.proofs.rules.sums.Given as goal
 
 abbrev pub invariant-loop-i : goal.invariant-loop-i
-invariant-loop-i l =  Kept 8 (λ (j : ℕ). sum_good (bit_at l.fitted) (get_or l.xs j 0)) l.i
+invariant-loop-i l = Kept 8 (λ (j : ℕ). sum_good (bit_at l.fitted) (get_or l.xs j 0)) l.i
 
 abbrev pub decreases-loop-i : goal.decreases-loop-i
-decreases-loop-i l =  8 - l.i
+decreases-loop-i l = 8 - l.i

@@ -6,7 +6,7 @@ use Rattle.settings.specs.Rules.{rule_good, zero_rule}
 use Rattle.settings.proofs.rules.tariff_rules.Given as goal
 
 abbrev pub invariant-loop-i : goal.invariant-loop-i
-invariant-loop-i l =  Kept 16 (λ (j : ℕ). rule_good (get_or l.xs j zero_rule)) l.i
+invariant-loop-i l = Kept 16 (λ (j : ℕ). rule_good (get_or l.xs j zero_rule)) l.i
 
 abbrev pub decreases-loop-i : goal.decreases-loop-i
-decreases-loop-i l =  16 - l.i
+decreases-loop-i l = 16 - l.i

@@ -6,7 +6,7 @@ use Rattle.settings.specs.Rules.{week_good}
 use Rattle.settings.proofs.rules.weeks.Given as goal
 
 abbrev pub invariant-loop-i : goal.invariant-loop-i
-invariant-loop-i l =  Kept 128 (λ (j : ℕ). week_good (get_or l.xs j 0)) l.i
+invariant-loop-i l = Kept 128 (λ (j : ℕ). week_good (get_or l.xs j 0)) l.i
 
 abbrev pub decreases-loop-i : goal.decreases-loop-i
-decreases-loop-i l =  128 - l.i
+decreases-loop-i l = 128 - l.i

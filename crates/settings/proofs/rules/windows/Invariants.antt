@@ -6,7 +6,7 @@ use Rattle.settings.specs.Rules.{window_good, zero_window}
 use Rattle.settings.proofs.rules.windows.Given as goal
 
 abbrev pub invariant-loop-i : goal.invariant-loop-i
-invariant-loop-i l =  Kept 128 (λ (j : ℕ). window_good (get_or l.xs j zero_window)) l.i
+invariant-loop-i l = Kept 128 (λ (j : ℕ). window_good (get_or l.xs j zero_window)) l.i
 
 abbrev pub decreases-loop-i : goal.decreases-loop-i
-decreases-loop-i l =  128 - l.i
+decreases-loop-i l = 128 - l.i

@@ -1,12 +1,10 @@
 -- `tariff::daily::daily_active` meets its contract. The windows' invariant: none before k is active.
-use mathlib.Core.Path.{◌≡◌, sym, ◌∙◌}
-use mathlib.Core.Bool.{false}
-use Prim.Native.Nat.{ℕ, ◌-◌, ◌<◌, ◌≤◌}
+use mathlib.Core.Path.{sym, ◌∙◌}
 use native.Mathlib.Omega.{arith}
 use borrow.Author.Count.{below_none, below_more}
 use borrow.Author.Rules.{rules}
 use borrow.Author.Tests.{le-ltb}
-use Rattle.tariff.specs.Daily.{in_window, window_at, daily_active}
+use Rattle.tariff.specs.Daily.{daily_active}
 use Rattle.tariff.proofs.Found.{daily_on, daily_off}
 use Rattle.tariff.proofs.daily.daily_active.Goals as goal
 

@@ -1,17 +1,12 @@
 -- `tariff::daily::daily_active` meets its contract. The windows' invariant: none before k is active.
-use mathlib.Core.Path.{◌≡◌, sym, ◌∙◌}
+use mathlib.Core.Path.{◌≡◌}
 use mathlib.Core.Bool.{false}
 use Prim.Native.Nat.{ℕ, ◌-◌, ◌<◌, ◌≤◌}
-use native.Mathlib.Omega.{arith}
-use borrow.Author.Count.{below_none, below_more}
-use borrow.Author.Rules.{rules}
-use borrow.Author.Tests.{le-ltb}
-use Rattle.tariff.specs.Daily.{in_window, window_at, daily_active}
-use Rattle.tariff.proofs.Found.{daily_on, daily_off}
+use Rattle.tariff.specs.Daily.{in_window, window_at}
 use Rattle.tariff.proofs.daily.daily_active.Given as goal
 
 abbrev pub invariant-windows : goal.invariant-windows
-invariant-windows l =  (l.k ≤ 4) × ((j : ℕ) → j < l.k → in_window (window_at l.program l.rule j) l.minute ≡ false)
+invariant-windows l = (l.k ≤ 4) × ((j : ℕ) → j < l.k → in_window (window_at l.program l.rule j) l.minute ≡ false)
 
 abbrev pub decreases-windows : goal.decreases-windows
-decreases-windows l =  4 - l.k
+decreases-windows l = 4 - l.k

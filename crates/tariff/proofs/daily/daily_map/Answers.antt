@@ -1,13 +1,10 @@
 -- `tariff::daily::daily_map` meets its contract. The rules' invariant: the mask of the rules before this one. The windows': and no window of it before k is active.
-use mathlib.Core.Path.{◌≡◌, refl, sym, ◌∙◌}
-use mathlib.Core.Bool.{false}
-use Prim.Native.Nat.{ℕ, ◌-◌, ◌<◌, ◌≤◌}
+use mathlib.Core.Path.{refl, sym, ◌∙◌}
 use native.Mathlib.Omega.{arith}
 use borrow.Author.Count.{below_none, below_more}
 use borrow.Author.Rules.{rules}
-use Rattle.laws.specs.Masks.{mask_of}
 use Rattle.laws.proofs.Masks.{mask_none, mask_set, mask_fits, mask_clear, mask_done}
-use Rattle.tariff.specs.Daily.{in_window, window_at, daily_active, daily_map}
+use Rattle.tariff.specs.Daily.{daily_map}
 use Rattle.tariff.proofs.Found.{daily_on, daily_off}
 use Rattle.tariff.proofs.daily.daily_map.Goals as goal
 

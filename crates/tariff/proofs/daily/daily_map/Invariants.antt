@@ -1,14 +1,9 @@
 -- `tariff::daily::daily_map` meets its contract. The rules' invariant: the mask of the rules before this one. The windows': and no window of it before k is active.
-use mathlib.Core.Path.{◌≡◌, refl, sym, ◌∙◌}
+use mathlib.Core.Path.{◌≡◌}
 use mathlib.Core.Bool.{false}
 use Prim.Native.Nat.{ℕ, ◌-◌, ◌<◌, ◌≤◌}
-use native.Mathlib.Omega.{arith}
-use borrow.Author.Count.{below_none, below_more}
-use borrow.Author.Rules.{rules}
 use Rattle.laws.specs.Masks.{mask_of}
-use Rattle.laws.proofs.Masks.{mask_none, mask_set, mask_fits, mask_clear, mask_done}
-use Rattle.tariff.specs.Daily.{in_window, window_at, daily_active, daily_map}
-use Rattle.tariff.proofs.Found.{daily_on, daily_off}
+use Rattle.tariff.specs.Daily.{in_window, window_at, daily_active}
 use Rattle.tariff.proofs.daily.daily_map.Given as goal
 
 abbrev pub invariant-loop-k : goal.invariant-loop-k
@@ -20,10 +15,10 @@ invariant-loop-k l =
     × ((j : ℕ) → j < l.k → in_window (window_at l.program l.rule j) l.minute ≡ false)
 
 abbrev pub decreases-loop-k : goal.decreases-loop-k
-decreases-loop-k l =  4 - l.k
+decreases-loop-k l = 4 - l.k
 
 abbrev pub invariant-rules : goal.invariant-rules
-invariant-rules l =  (l.rule ≤ 32) × (l.map ≡ mask_of l.rule (λ r. daily_active l.program r l.minute))
+invariant-rules l = (l.rule ≤ 32) × (l.map ≡ mask_of l.rule (λ r. daily_active l.program r l.minute))
 
 abbrev pub decreases-rules : goal.decreases-rules
-decreases-rules l =  32 - l.rule
+decreases-rules l = 32 - l.rule

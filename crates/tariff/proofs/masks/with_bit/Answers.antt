@@ -1,5 +1,4 @@
 -- `tariff::masks::with_bit` meets its contract: each return knows the place and whether the bit is to be on.
-use borrow.Author.Rules.{rules}
 use borrow.Author.Tests.{lt-ltb, le-ltb}
 use Rattle.laws.specs.Masks.{or_bit}
 use Rattle.laws.proofs.Masks.{shl_is}

@@ -1,19 +1,16 @@
 -- `tariff::rules::force_map` meets its contract. The loop's invariant: the mask of the tariff rules before i.
-use mathlib.Core.Path.{◌≡◌, ◌∙◌}
-use Prim.Native.Nat.{◌-◌, ◌≤◌}
+use mathlib.Core.Path.{◌∙◌}
 use native.Mathlib.Omega.{arith}
 use borrow.Author.Rules.{rules}
-use Rattle.laws.specs.Masks.{mask_of}
 use Rattle.laws.proofs.Masks.{mask_none, mask_more, mask_below, mask_done}
-use Rattle.tariff.proofs.Maps.{applies_at, applies_by_bits, force_made}
+use Rattle.tariff.proofs.Maps.{applies_by_bits, force_made}
 use Rattle.tariff.proofs.rules.force_map.Goals as goal
 
 pub loop-i-init : goal.loop-i-init
 loop-i-init c = (search rules, mask_none _)
 
 pub loop-i-preserved : goal.loop-i-preserved
-loop-i-preserved c =
- (
+loop-i-preserved c = (
   omega arith,
   mask_more _ _ (omega arith) c.loop-i.invariant.1 c.with_bit-map.ensures
       (applies_by_bits _ _ _ _ _ _ c.bit_at.ensures c.bit_at-in-loop-i.ensures),

@@ -1,7 +1,5 @@
 -- `tariff::rules::force_map_at` meets its contract: the arm knows the calendar's answer.
-use mathlib.Core.Path.{sym, ap, ◌∙◌}
-use borrow.Author.Rules.{rules}
-use Rattle.calendar.specs.Moments.{dated_said}
+use mathlib.Core.Path.{ap, ◌∙◌}
 use Rattle.tariff.specs.Rules.{force_of}
 use Rattle.tariff.proofs.rules.force_map_at.Goals as goal
 

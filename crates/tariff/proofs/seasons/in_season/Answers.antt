@@ -1,6 +1,5 @@
 -- `tariff::seasons::in_season` meets its contract: each return rewrites the rule by the tests before it and by what the three calls ensure.
 use mathlib.Core.Path.{sym, ◌∙◌}
-use borrow.Author.Rules.{rules}
 use Rattle.tariff.specs.Seasons.{in_season}
 use Rattle.tariff.proofs.seasons.in_season.Goals as goal
 

@@ -1,11 +1,8 @@
 -- `tariff::seasons::season_map` meets its contract. The loop's invariant: the mask of the seasons before i.
-use mathlib.Core.Path.{◌≡◌}
-use Prim.Native.Nat.{◌-◌, ◌≤◌}
 use native.Mathlib.Omega.{arith}
 use borrow.Author.Rules.{rules}
-use Rattle.laws.specs.Masks.{mask_of}
 use Rattle.laws.proofs.Masks.{mask_none, mask_more, mask_done}
-use Rattle.tariff.specs.Seasons.{season_at, in_season, season_map}
+use Rattle.tariff.specs.Seasons.{season_map}
 use Rattle.tariff.proofs.seasons.season_map.Goals as goal
 
 pub loop-i-init : goal.loop-i-init

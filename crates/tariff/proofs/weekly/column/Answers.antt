@@ -1,5 +1,4 @@
 -- `tariff::weekly::column` meets its contract: the arm knows the finding, and the branch the weekday.
-use borrow.Author.Rules.{rules}
 use borrow.Author.Tests.{lt-ltb, le-ltb}
 use Rattle.tariff.proofs.weekly.column.Goals as goal
 

@@ -1,6 +1,5 @@
 -- `tariff::weekly::column_on` meets its contract: the two calls in a row.
 use mathlib.Core.Path.{ap, ◌∙◌}
-use borrow.Author.Rules.{rules}
 use Rattle.tariff.specs.Weekly.{column_of, column_on}
 use Rattle.tariff.proofs.weekly.column_on.Goals as goal
 

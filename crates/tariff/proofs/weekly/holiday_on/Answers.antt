@@ -1,11 +1,8 @@
 -- `tariff::weekly::holiday_on` meets its contract. The loop's invariant: no holiday before i fits.
-use mathlib.Core.Path.{◌≡◌, sym, ◌∙◌}
-use mathlib.Core.Bool.{false}
-use Prim.Native.Nat.{ℕ, ◌-◌, ◌<◌, ◌≤◌}
+use mathlib.Core.Path.{sym, ◌∙◌}
 use native.Mathlib.Omega.{arith}
 use borrow.Author.Count.{below_none, below_more}
 use borrow.Author.Rules.{rules}
-use Rattle.tariff.specs.Weekly.{holiday_fits, holiday_at}
 use Rattle.tariff.proofs.Found.{holiday_found, holiday_none}
 use Rattle.tariff.proofs.weekly.holiday_on.Goals as goal
 

@@ -1,6 +1,5 @@
 -- `tariff::weekly::reference` meets its contract: each return knows which of the two tests it passed.
 use mathlib.Core.Bool.{and-false}
-use borrow.Author.Rules.{rules}
 use borrow.Author.Tests.{lt-ltb, le-ltb}
 use Rattle.tariff.proofs.weekly.reference.Goals as goal
 

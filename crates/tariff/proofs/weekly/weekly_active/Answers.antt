@@ -1,5 +1,4 @@
 -- `tariff::weekly::weekly_active` meets its contract: the daily rule of the day's place, in the minute.
-use borrow.Author.Rules.{rules}
 use Rattle.tariff.specs.Weekly.{reference_at, weekly_active}
 use Rattle.tariff.proofs.weekly.weekly_active.Goals as goal
 

@@ -1,9 +1,8 @@
 -- `tariff::weekly::weekly_map` meets its contract. The loop's invariant: the mask of the weekly rules before this one.
-use mathlib.Core.Path.{◌≡◌, ap, ◌∙◌}
-use Prim.Native.Nat.{◌-◌, ◌≤◌}
+use mathlib.Core.Path.{ap, ◌∙◌}
 use native.Mathlib.Omega.{arith}
 use borrow.Author.Rules.{rules}
-use Rattle.laws.specs.Masks.{mask_of, bit_at}
+use Rattle.laws.specs.Masks.{bit_at}
 use Rattle.laws.proofs.Masks.{mask_none, mask_more, mask_below, mask_done}
 use Rattle.tariff.proofs.Maps.{used_at, weekly_made}
 use Rattle.tariff.proofs.weekly.weekly_map.Goals as goal
@@ -13,8 +12,7 @@ loop-week-init c = (search rules, mask_none _)
 
 pub loop-week-preserved : goal.loop-week-preserved
 unfolding used_at
-loop-week-preserved c =
- (
+loop-week-preserved c = (
   omega arith,
   mask_more _ _ (omega arith) c.loop-week.invariant.1 c.with_bit-map.ensures (c.bit_at.ensures ∙ ap (bit_at _) c.reference-rule.ensures),
 )

@@ -1,9 +1,8 @@
 -- Calls that are lent a buffer, from what the code found of its length.
 use mathlib.Core.Path.{◌≡◌, sym, ap, ap₂, ◌∙◌}
-use mathlib.Core.Bool.{Bool, true, false, not}
+use mathlib.Core.Bool.{Bool, true, false}
 use mathlib.Core.List.{List}
 use Prim.Native.Nat.{ℕ}
-use borrow.Author.Tests.{not-true, not-false}
 use lib.ListN.{length}
 use Rattle.profile.specs.Room.{as_at_start, Kept, kept, with_records, moved_by}
 use Rattle.profile.specs.declared.Profile.{Profile}

@@ -1,9 +1,8 @@
 -- What a start replies, from what reading the image ensures.
 use mathlib.Core.Path.{◌≡◌, sym, ap, ◌∙◌}
-use mathlib.Core.Bool.{Bool, true, false, not}
+use mathlib.Core.Bool.{Bool, true, false}
 use mathlib.Core.List.{List}
 use Prim.Native.Nat.{ℕ}
-use borrow.Author.Tests.{not-true, not-false}
 use Rattle.laws.specs.Answers.{refused}
 use Rattle.calendar.specs.Moments.{moment_of}
 use Rattle.image.specs.Answers.{image_said, image_answer, image_config, IsRead}

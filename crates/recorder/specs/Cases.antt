@@ -1,6 +1,5 @@
 -- Lines 5, 6 and 7 of document 01's table: runs, units and bills of input 0, as samples of a fresh recorder make them.
 use Rattle.std.specs.Prelude.{◌≡◌, List, [], ◌∷◌, ◌++◌, ℕ, zero, suc, pos, replicate}
-use Rattle.laws.specs.First.{first}
 use Rattle.tariff.specs.declared.Program.{Program}
 use Rattle.settings.specs.declared.Config.{Config}
 use Rattle.counting.specs.Filter.{line_at}

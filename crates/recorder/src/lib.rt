@@ -1,5 +1,6 @@
 // The recorder: what is fixed, what moves, and the calls that move it.
 #![tactic(auto)]
+
 mod calls;
 mod meters;
 mod samples;

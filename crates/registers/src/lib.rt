@@ -1,5 +1,6 @@
 // Register requests: a group, a register and a lent buffer. Each ends with the register's bytes or with the refusal that document 01 names for it.
 #![tactic(auto)]
+
 mod contents;
 mod fleet;
 mod numbers;

@@ -1,5 +1,6 @@
 // What moves, and the samples that move it.
 #![tactic(auto)]
+
 mod booking;
 pub mod clock;
 pub mod samples;

@@ -1,7 +1,5 @@
 -- `host::recorder_age_class` meets its contract: each arm knows the recorder's answer.
-use mathlib.Core.Path.{sym, ap, ◌∙◌}
-use borrow.Author.Rules.{rules}
-use Rattle.recorder.specs.Meters.{age_said}
+use mathlib.Core.Path.{ap, ◌∙◌}
 use Rattle.host.specs.Host.{answer_number}
 use Rattle.host.proofs.recorder_age_class.Goals as goal
 

@@ -1,7 +1,5 @@
 -- `host::recorder_calendar` meets its contract: the arm knows the calendar's answer.
-use mathlib.Core.Path.{sym, ap, ◌∙◌}
-use borrow.Author.Rules.{rules}
-use Rattle.calendar.specs.Moments.{dated_said}
+use mathlib.Core.Path.{ap, ◌∙◌}
 use Rattle.host.specs.Host.{moment_number}
 use Rattle.host.proofs.recorder_calendar.Goals as goal
 

@@ -1,6 +1,5 @@
 -- `host::recorder_image_check` meets its contract: each arm knows the image's answer, whose offset is small.
 use mathlib.Core.Path.{sym, ap, ◌∙◌}
-use borrow.Author.Rules.{rules}
 use Rattle.image.specs.Answers.{image_said}
 use Rattle.image.proofs.Refusals.{refusal_within}
 use Rattle.host.specs.Host.{image_number}

@@ -1,5 +1,4 @@
 -- `makers::give_list` meets its contract.
-use borrow.Author.Rules.{rules}
 use borrow.Author.Tests.{lt-ltb, le-ltb}
 use Rattle.makers.specs.Lists.{list_reply}
 use Rattle.makers.proofs.give_list.Goals as goal

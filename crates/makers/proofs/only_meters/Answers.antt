@@ -1,13 +1,8 @@
 -- `makers::only_meters` meets its contract. The loop's invariant: the limits before i are those of the list's meters.
-use mathlib.Core.Path.{◌≡◌}
-use Prim.Native.Nat.{◌-◌, ◌≤◌}
 use native.Mathlib.Omega.{arith}
 use borrow.Author.Rules.{rules}
-use lib.ListN.{get_or}
-use Rattle.laws.specs.If.{if◌then◌else◌}
-use Rattle.laws.specs.Masks.{bit_at}
 use Rattle.laws.proofs.Arrays.{length_mapped}
-use Rattle.laws.proofs.Tables.{fill_to, fill_none, fill_more, fill_done}
+use Rattle.laws.proofs.Tables.{fill_none, fill_more, fill_done}
 use Rattle.makers.specs.Requests.{only_meters}
 use Rattle.makers.proofs.only_meters.Goals as goal
 

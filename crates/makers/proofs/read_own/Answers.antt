@@ -1,5 +1,4 @@
 -- `makers::read_own` meets its contract: each return knows the tests before it; a request that is passed on is answered by `read_register`.
-use borrow.Author.Rules.{rules}
 use borrow.Author.Tests.{lt-ltb, le-ltb, eq-eqb, ne_eqb}
 use Rattle.makers.specs.Requests.{maker_reply}
 use Rattle.makers.proofs.read_own.Goals as goal

@@ -1,5 +1,4 @@
 -- `recorder::blank_recorder` meets its contract.
-use borrow.Author.Rules.{rules}
 use Rattle.recorder.specs.Calls.{blank_recorder}
 use Rattle.recorder.proofs.blank_recorder.Goals as goal
 

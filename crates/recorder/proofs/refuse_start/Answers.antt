@@ -1,5 +1,4 @@
 -- `recorder::refuse_start` meets its contract.
-use borrow.Author.Rules.{rules}
 use Rattle.recorder.proofs.refuse_start.Goals as goal
 
 pub returns : goal.returns

@@ -1,6 +1,5 @@
 -- `recorder::start_at` meets its contract: the arm knows the calendar's answer.
 use mathlib.Core.Path.{sym, ap, ◌∙◌}
-use borrow.Author.Rules.{rules}
 use Rattle.calendar.specs.Moments.{dated_said}
 use Rattle.recorder.specs.Calls.{start_said}
 use Rattle.recorder.proofs.start_at.Goals as goal

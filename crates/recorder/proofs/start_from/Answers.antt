@@ -1,6 +1,5 @@
 -- `recorder::start_from` meets its contract: each arm knows the image's answer.
 use mathlib.Core.Path.{sym, ap, ◌∙◌}
-use borrow.Author.Rules.{rules}
 use Rattle.image.specs.Answers.{image_said}
 use Rattle.recorder.specs.Calls.{start_said}
 use Rattle.recorder.proofs.Starts.{started_from, refused_from}

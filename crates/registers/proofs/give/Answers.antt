@@ -1,10 +1,10 @@
 -- `registers::give` meets its contract. The loop's invariant: the first i bytes are the register's, the others the buffer's own.
 use mathlib.Core.Path.{◌≡◌, refl, ap, ◌∙◌}
-use mathlib.Core.List.{List, ◌++◌}
-use Prim.Native.Nat.{ℕ, ◌-◌, ◌≤◌}
+use mathlib.Core.List.{List}
+use Prim.Native.Nat.{ℕ}
 use native.Mathlib.Omega.{arith}
 use borrow.Author.Rules.{rules}
-use lib.ListN.{length, take, drop, set, get_or, length-set}
+use lib.ListN.{set, get_or, length-set}
 use Rattle.laws.proofs.Stores.{one_copied}
 use Rattle.registers.proofs.give.Goals as goal
 

@@ -2,7 +2,6 @@
 use mathlib.Core.Path.{refl}
 use mathlib.Core.Logic.{inl, inr}
 use native.Mathlib.Omega.{arith}
-use borrow.Author.Rules.{rules}
 use Rattle.registers.specs.Registers.{groups, look_up}
 use Rattle.registers.proofs.Groups.{always_there}
 use Rattle.registers.proofs.is_fitted.Goals as goal

@@ -6,7 +6,7 @@ use borrow.Author.Rules.{rules}
 use borrow.Author.Tests.{lt-leb, le-leb}
 use lib.ListN.{length}
 use Rattle.recorder.specs.declared.Recorder.{Recorder}
-use Rattle.registers.specs.Registers.{groups, register_reply, group_of, held_by, layout_said, replied}
+use Rattle.registers.specs.Registers.{groups, register_reply, group_of, held_by, replied}
 use Rattle.registers.specs.declared.RegisterAnswer.TheVariants.{Given}
 use Rattle.registers.proofs.Groups.{Found, found, not_found, each_found, reply_12, reply_8, reply_13, reply_read, given_out}
 use Rattle.registers.proofs.Laws.{held_long}

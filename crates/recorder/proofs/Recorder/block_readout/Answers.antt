@@ -1,14 +1,13 @@
 -- `recorder::Recorder::block_readout` meets its contract: by what the block is.
-use mathlib.Core.Path.{◌≡◌, sym, ap, ◌∙◌}
+use mathlib.Core.Path.{◌≡◌, ◌∙◌}
 use mathlib.Core.Bool.{true, false}
 use mathlib.Core.List.{List}
 use Prim.Native.Nat.{ℕ}
 use Rattle.laws.specs.Answers.{given, refused}
 use Rattle.laws.proofs.Tests.{by_test}
-use Rattle.readout.specs.Answers.{block_answer, block_said}
+use Rattle.readout.specs.Answers.{block_answer}
 use Rattle.readout.specs.Blocks.{is_block}
 use Rattle.recorder.specs.Readout.{block_readout_reply}
-use borrow.Author.Rules.{rules}
 use Rattle.recorder.proofs.Recorder.block_readout.Goals as goal
 
 -- what the answer says of the block

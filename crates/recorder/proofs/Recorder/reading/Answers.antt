@@ -2,7 +2,6 @@
 use mathlib.Core.Path.{ap}
 use mir.Syntax.{w32}
 use mir.Facts.{to_z-of_z}
-use borrow.Author.Rules.{rules}
 use Rattle.sampling.specs.declared.State.{State}
 use Rattle.recorder.specs.Meters.{ReadingReply}
 use Rattle.recorder.specs.Calls.{reading_beside}

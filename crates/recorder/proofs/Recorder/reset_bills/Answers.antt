@@ -1,5 +1,4 @@
 -- `recorder::Recorder::reset_bills` meets its contract.
-use borrow.Author.Rules.{rules}
 use Rattle.recorder.proofs.Recorder.reset_bills.Goals as goal
 
 pub returns : goal.returns

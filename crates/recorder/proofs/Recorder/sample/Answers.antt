@@ -1,5 +1,4 @@
 -- `recorder::Recorder::sample` meets its contract.
-use borrow.Author.Rules.{rules}
 use Rattle.recorder.proofs.Lent.{sample_14, sample_lent_lem}
 use Rattle.recorder.proofs.Recorder.sample.Goals as goal
 

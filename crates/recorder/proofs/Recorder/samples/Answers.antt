@@ -1,6 +1,5 @@
 -- `recorder::Recorder::samples` meets its contract. The loop's invariant: what is left to take from the present state, counted on from k, is the whole run, and so are the records that are left to put.
 use mathlib.Core.Path.{◌≡◌, refl, sym, ap, ◌∙◌}
-use mathlib.Core.Bool.{not}
 use Prim.Native.Nat.{◌+◌, ◌-◌, ◌≤◌}
 use native.Mathlib.Nat.{zero-add}
 use native.Mathlib.Omega.{arith}
@@ -14,13 +13,10 @@ use lib.ListN.{take}
 use Rattle.settings.specs.declared.Config.{Config}
 use Rattle.sampling.specs.declared.State.{State}
 use Rattle.sampling.specs.Laps.{LapReply}
-use Rattle.profile.specs.Room.{Kept, kept, with_records}
+use Rattle.profile.specs.Room.{Kept}
 use Rattle.profile.proofs.Puts.{put_long}
-use Rattle.sampling.specs.Samples.{samples_of}
-use Rattle.sampling.specs.Laps.{lap_of, lap_said}
-use Rattle.sampling.specs.Closed.{closed_in}
+use Rattle.sampling.specs.Laps.{lap_of}
 use Rattle.sampling.proofs.Laps.{later, later_later, run_closes, run_ends, closes_first, ends_open, taken_within, closes_some}
-use Rattle.recorder.specs.Profile.{records_of}
 use Rattle.recorder.proofs.Lent.{run_14, run_lent}
 use Rattle.recorder.proofs.Recorder.samples.Goals as goal
 

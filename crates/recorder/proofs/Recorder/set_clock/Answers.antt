@@ -1,5 +1,4 @@
 -- `recorder::Recorder::set_clock` meets its contract: what the call ensures, with what is fixed beside it.
-use borrow.Author.Rules.{rules}
 use Rattle.recorder.proofs.Lent.{set_14, set_lent_lem}
 use Rattle.recorder.proofs.Recorder.set_clock.Goals as goal
 

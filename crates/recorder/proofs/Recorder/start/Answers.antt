@@ -1,6 +1,5 @@
 -- `recorder::Recorder::start` meets its contract: the buffer's length, the slots, then the image.
 use mathlib.Core.Path.{ap, ◌∙◌}
-use borrow.Author.Rules.{rules}
 use Rattle.recorder.specs.Calls.{start_said}
 use Rattle.recorder.proofs.Starts.{start_14, start_8, start_on}
 use Rattle.recorder.proofs.Recorder.start.Goals as goal

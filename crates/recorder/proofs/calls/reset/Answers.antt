@@ -1,12 +1,9 @@
 -- `recorder::calls::reset` meets its contract. The loop's invariant: the bills before j are closed.
-use mathlib.Core.Path.{◌≡◌}
-use Prim.Native.Nat.{◌-◌, ◌≤◌}
 use native.Mathlib.Omega.{arith}
 use borrow.Author.Rules.{rules}
 use Rattle.laws.proofs.Arrays.{length_mapped}
-use Rattle.laws.proofs.Tables.{fill_to, fill_none, fill_more, fill_done}
-use Rattle.counting.specs.Bills.{register_at, bill_at}
-use Rattle.recorder.specs.Clock.{closed_bill, reset_of}
+use Rattle.laws.proofs.Tables.{fill_none, fill_more, fill_done}
+use Rattle.recorder.specs.Clock.{reset_of}
 use Rattle.recorder.proofs.calls.reset.Goals as goal
 
 pub loop-j-init : goal.loop-j-init

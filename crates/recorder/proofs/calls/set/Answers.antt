@@ -1,7 +1,5 @@
 -- `recorder::calls::set` meets its contract: the arm knows the calendar's answer.
-use mathlib.Core.Path.{sym, ap, ◌∙◌}
-use borrow.Author.Rules.{rules}
-use Rattle.calendar.specs.Moments.{dated_said}
+use mathlib.Core.Path.{sym, ◌∙◌}
 use Rattle.recorder.specs.Clock.{set_of}
 use Rattle.recorder.proofs.calls.set.Goals as goal
 

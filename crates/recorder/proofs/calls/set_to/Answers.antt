@@ -1,5 +1,4 @@
 -- `recorder::calls::set_to` meets its contract.
-use borrow.Author.Rules.{rules}
 use Rattle.recorder.specs.Clock.{set_to}
 use Rattle.recorder.proofs.calls.set_to.Goals as goal
 

@@ -1,7 +1,6 @@
 -- `recorder::meters::age_answer` meets its contract.
 use mathlib.Core.Path.{ap}
 use borrow.Author.Tests.{lt-ltb, le-ltb, eq-eqb, ne_eqb}
-use borrow.Author.Rules.{rules}
 use Rattle.laws.specs.Answers.{given}
 use Rattle.recorder.specs.Meters.{age_of}
 use Rattle.recorder.proofs.meters.age_answer.Goals as goal

@@ -1,6 +1,5 @@
 -- `recorder::samples::keep` meets its contract: the record of the period is put.
 use mathlib.Core.Path.{◌∙◌}
-use borrow.Author.Rules.{rules}
 use Rattle.recorder.proofs.samples.keep.Goals as goal
 
 pub returns : goal.returns

@@ -1,6 +1,5 @@
 -- `recorder::samples::one` meets its contract: one sample, and where it closes a period the closing and the record.
 use mathlib.Core.Path.{sym, ◌∙◌}
-use borrow.Author.Rules.{rules}
 use borrow.Author.Tests.{not-true, not-false}
 use Rattle.sampling.proofs.Laps.{one_closes, one_closed, run_ends, ends_open}
 use Rattle.recorder.proofs.Single.{one_sample, one_period}
@@ -19,5 +18,5 @@ returns c =
     let closed = c.close-closed.ensures in
     record {
       samples = rw closed (one_sample _ _ _ _ (sym (one_closes _ _ _ _ lap closes)));
-      records = c.keep.ensures ∙ rw (closed, sym (one_period _ _ _) ∙ one_closed _ _ _ _ lap closes)
+      records = c.keep.ensures ∙ rw (closed, sym (one_period _ _ _) ∙ one_closed _ _ _ _ lap closes);
     }

@@ -1,6 +1,5 @@
 -- `registers::contents::clock_bytes` meets its contract: the numbers stand one after another.
 use mathlib.Core.Path.{◌∙◌}
-use borrow.Author.Rules.{rules}
 use Rattle.laws.specs.Bytes.{bytes_of}
 use Rattle.registers.specs.Contents.{clock_bytes}
 use Rattle.registers.proofs.contents.clock_bytes.Goals as goal

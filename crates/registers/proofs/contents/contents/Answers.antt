@@ -2,7 +2,6 @@
 use mathlib.Core.Path.{◌∙◌}
 use Prim.Native.Nat.{◌<◌}
 use native.Mathlib.Omega.{arith}
-use borrow.Author.Rules.{rules}
 use Rattle.registers.specs.Registers.{groups, look_up}
 use Rattle.registers.proofs.Groups.{none_found}
 use Rattle.registers.proofs.contents.contents.Goals as goal

@@ -1,6 +1,5 @@
 -- `registers::contents::daily` meets its contract: what the two calls ensure.
 use mathlib.Core.Path.{◌∙◌}
-use borrow.Author.Rules.{rules}
 use Rattle.registers.specs.Contents.{daily_bytes}
 use Rattle.registers.proofs.contents.daily.Goals as goal
 

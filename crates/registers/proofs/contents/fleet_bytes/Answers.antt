@@ -1,6 +1,5 @@
 -- `registers::contents::fleet_bytes` meets its contract: the numbers stand one after another. The sum, a signed field, is read back from its bits.
 use mathlib.Core.Path.{◌≡◌, ◌∙◌}
-use borrow.Author.Rules.{rules}
 use mir.Syntax.{w64}
 use mir.Val.{to_z, of_z}
 use mir.Facts.{to_z-of_z}

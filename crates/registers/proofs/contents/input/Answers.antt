@@ -1,6 +1,5 @@
 -- `registers::contents::input` meets its contract: the numbers stand one after another.
 use mathlib.Core.Path.{◌∙◌}
-use borrow.Author.Rules.{rules}
 use Rattle.laws.specs.Bytes.{bytes_of}
 use Rattle.registers.specs.Contents.{filter_bytes}
 use Rattle.registers.proofs.contents.input.Goals as goal

@@ -1,7 +1,5 @@
 -- `registers::contents::level9` meets its contract: the numbers stand one after another. The value, a signed element, is read back from its bits.
 use mathlib.Core.Path.{◌≡◌, ◌∙◌}
-use Prim.Native.Nat.{ℕ}
-use borrow.Author.Rules.{rules}
 use borrow.Author.Tests.{eq-eqb, ne_eqb}
 use lib.IntN.{pos}
 use lib.ListN.{get_or}

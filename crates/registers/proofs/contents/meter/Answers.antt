@@ -1,6 +1,5 @@
 -- `registers::contents::meter` meets its contract: the meter's bytes by its class.
 use mathlib.Core.Path.{◌∙◌}
-use borrow.Author.Rules.{rules}
 use Rattle.registers.specs.Fleet.{class_at}
 use Rattle.registers.specs.Contents.{meter_bytes}
 use Rattle.registers.proofs.contents.meter.Goals as goal

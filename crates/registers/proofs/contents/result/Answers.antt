@@ -1,6 +1,5 @@
 -- `registers::contents::result` meets its contract: 1 or 0 in one byte.
 use mathlib.Core.Path.{◌∙◌}
-use borrow.Author.Rules.{rules}
 use Rattle.laws.specs.Bytes.{bytes_of}
 use Rattle.registers.specs.Contents.{result_bytes}
 use Rattle.registers.proofs.contents.result.Goals as goal

@@ -1,6 +1,5 @@
 -- `registers::contents::serial` meets its contract: the numbers stand one after another. The value, a signed field, is read back from its bits.
 use mathlib.Core.Path.{◌≡◌, ◌∙◌}
-use borrow.Author.Rules.{rules}
 use borrow.Author.Tests.{eq-eqb, ne_eqb}
 use mir.Syntax.{w32}
 use mir.Val.{to_z, of_z}

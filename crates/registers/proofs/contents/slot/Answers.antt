@@ -1,5 +1,4 @@
 -- `registers::contents::slot` meets its contract: level 9 of the slot.
-use borrow.Author.Rules.{rules}
 use Rattle.registers.specs.Contents.{level_bytes}
 use Rattle.registers.proofs.contents.slot.Goals as goal
 

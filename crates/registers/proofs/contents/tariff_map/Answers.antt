@@ -1,6 +1,5 @@
 -- `registers::contents::tariff_map` meets its contract: the map in two bytes.
 use mathlib.Core.Path.{◌∙◌}
-use borrow.Author.Rules.{rules}
 use Rattle.laws.specs.Bytes.{bytes_of}
 use Rattle.registers.specs.Contents.{map_bytes}
 use Rattle.registers.proofs.contents.tariff_map.Goals as goal

@@ -1,7 +1,5 @@
 -- `registers::contents::weekly` meets its contract: what the calls ensure, with a date and without one.
-use mathlib.Core.Path.{sym, ap, ◌∙◌}
-use borrow.Author.Rules.{rules}
-use Rattle.calendar.specs.Moments.{dated_said}
+use mathlib.Core.Path.{ap, ◌∙◌}
 use Rattle.registers.specs.Contents.{padded, result_bytes, weekly_on, weekly_bytes}
 use Rattle.registers.proofs.contents.weekly.Goals as goal
 

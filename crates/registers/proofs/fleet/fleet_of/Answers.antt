@@ -3,7 +3,7 @@
 use mathlib.Core.Path.{◌≡◌, refl, sym, ap, ◌∙◌}
 use mathlib.Core.Bool.{Bool, ◌||◌}
 use mathlib.Core.List.{List}
-use Prim.Native.Nat.{ℕ, ◌+◌, ◌-◌, ◌*◌, ◌^◌, ◌≤◌, ◌<◌, zero-le}
+use Prim.Native.Nat.{ℕ, ◌+◌, ◌*◌, ◌^◌, ◌≤◌, ◌<◌, zero-le}
 use native.Mathlib.Omega.{arith}
 use borrow.Author.Rules.{rules}
 use borrow.Author.Tests.{ltb-true, ltb-false, ne_eqb}
@@ -17,12 +17,10 @@ use mir.Val.{Fits, to_z, of_z}
 use mir.Facts.{to_z-of_z}
 use Rattle.laws.proofs.Tests.{by_test}
 use Rattle.laws.proofs.Keys.{in_range_lem}
-use Rattle.laws.specs.Tables.{table}
 use Rattle.laws.proofs.Tables.{table_at}
 use Rattle.laws.specs.Masks.{mask_of}
 use Rattle.laws.proofs.Masks.{mask_cong, mask_none, mask_more, mask_done}
 use Rattle.laws.proofs.Counts.{ones_mask, ones_mask_le, mask_or}
-use Rattle.laws.specs.SignedTotal.{totalℤ}
 use Rattle.laws.proofs.SignedTotal.{abs_fits, totalℤ-none, totalℤ-turn, totalℤ-done}
 use Rattle.sampling.specs.declared.Meter.{Meter}
 use Rattle.recorder.specs.Meters.{meter_at}

@@ -1,6 +1,5 @@
 -- `registers::fleet::meter_class` meets its contract: the test of the limit, and what the two calls ensure.
 use mathlib.Core.Path.{◌∙◌}
-use borrow.Author.Rules.{rules}
 use borrow.Author.Tests.{eq-eqb, ne_eqb}
 use Rattle.registers.specs.Fleet.{meter_class}
 use Rattle.registers.proofs.fleet.meter_class.Goals as goal

@@ -1,11 +1,8 @@
 -- `registers::numbers::with_number` meets its contract. The loop's invariant: what is left of the number goes to the places that are left.
-use mathlib.Core.Path.{◌≡◌, sym, ◌∙◌}
-use Prim.Native.Nat.{◌+◌, ◌-◌, ◌≤◌}
+use mathlib.Core.Path.{sym, ◌∙◌}
 use native.Mathlib.Nat.{add-zero, sub-zero}
 use native.Mathlib.Omega.{arith}
 use borrow.Author.Rules.{rules}
-use lib.Seq.{sets}
-use Rattle.laws.specs.Bytes.{bytes_of}
 use Rattle.laws.proofs.Stores.{byte_stored, bytes_stored}
 use Rattle.registers.proofs.numbers.with_number.Goals as goal
 

@@ -1,13 +1,12 @@
 -- `sampling::booking::add_due` meets its contract. The loop's invariant: the registers that are no more in `left` have their units booked.
 use mathlib.Core.Path.{◌≡◌, sym, ◌∙◌}
-use Prim.Native.Nat.{◌+◌, ◌<◌, ◌≤◌, ◌^◌}
 use native.Mathlib.Omega.{arith}
 use borrow.Author.Rules.{rules}
 use lib.Count.{count_trailing_zeros, trailing_le}
 use lib.ListN.{get_or}
 use Rattle.laws.proofs.Tables.{table_self}
-use Rattle.counting.specs.Bills.{register_at, unit_at, register_units}
-use Rattle.laws.proofs.Sparse.{Half, half_start, half_next, half_turn, half_done, lowest_below, lowest_on, drop_less}
+use Rattle.counting.specs.Bills.{unit_at}
+use Rattle.laws.proofs.Sparse.{half_start, half_next, half_turn, half_done, lowest_below, lowest_on, drop_less}
 use Rattle.counting.proofs.Full.{not_filled, booked_of_fed}
 use Rattle.sampling.proofs.booking.add_due.Goals as goal
 

@@ -1,14 +1,8 @@
 -- `sampling::booking::add_due` meets its contract. The loop's invariant: the registers that are no more in `left` have their units booked.
-use mathlib.Core.Path.{◌≡◌, sym, ◌∙◌}
 use Prim.Native.Nat.{◌+◌, ◌<◌, ◌≤◌, ◌^◌}
-use native.Mathlib.Omega.{arith}
-use borrow.Author.Rules.{rules}
-use lib.Count.{count_trailing_zeros, trailing_le}
-use lib.ListN.{get_or}
-use Rattle.laws.proofs.Tables.{table_self}
+use lib.Count.{count_trailing_zeros}
 use Rattle.counting.specs.Bills.{register_at, unit_at, register_units}
-use Rattle.laws.proofs.Sparse.{Half, half_start, half_next, half_turn, half_done, lowest_below, lowest_on, drop_less}
-use Rattle.counting.proofs.Full.{not_filled, booked_of_fed}
+use Rattle.laws.proofs.Sparse.{Half}
 use Rattle.sampling.proofs.booking.add_due.Given as goal
 
 abbrev pub invariant-loop-left : goal.invariant-loop-left
@@ -16,4 +10,4 @@ invariant-loop-left l =
     (l.left < 2 ^ 16) × (count_trailing_zeros 16 l.left ≤ 16) × Half l.fed l.left (λ j. unit_at l.initial.amounts j + register_units (register_at l.registers j) l.sums) (unit_at l.initial.amounts) l.amounts
 
 abbrev pub decreases-loop-left : goal.decreases-loop-left
-decreases-loop-left l =  l.left
+decreases-loop-left l = l.left

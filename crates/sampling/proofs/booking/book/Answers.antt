@@ -13,7 +13,7 @@ returns-then-brought-eq0 c =
     let none = c.requires.1.none c.if-brought-eq0.true in
     record {
       full = sym (none_full a.config.registers a.amounts.now a.fed a.config.sums a.units none);
-      amounts = sym (same_amounts a.config.registers a.amounts.now a.fed a.config.sums a.units none c.requires.0)
+      amounts = sym (same_amounts a.config.registers a.amounts.now a.fed a.config.sums a.units none c.requires.0);
     }
 
 pub returns-then-some_full : goal.returns-then-some_full
@@ -31,5 +31,5 @@ returns c =
     let sums : c.sums_units-sums.result ≡ sums_of c.args.config.sums c.args.units = c.sums_units-sums.ensures ∙ ap (sums_of c.args.config.sums) (own_units c.args.units c.args.ending (search rules) c.requires.1.others) in
     record {
       full = sym c.if-some_full.false ∙ c.some_full.ensures ∙ ap (some_full _ _ _) sums;
-      amounts = c.add_due.ensures ∙ ap (amounts_booked _ _ _) sums
+      amounts = c.add_due.ensures ∙ ap (amounts_booked _ _ _) sums;
     }

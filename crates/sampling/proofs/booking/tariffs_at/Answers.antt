@@ -1,5 +1,4 @@
 -- `sampling::booking::tariffs_at` meets its contract.
-use borrow.Author.Rules.{rules}
 use Rattle.sampling.proofs.booking.tariffs_at.Goals as goal
 
 pub returns-then-tariffs : goal.returns-then-tariffs

@@ -1,6 +1,5 @@
 -- `sampling::booking::with_due` meets its contract: what does not fill an amount keeps it within 32 bits.
 use native.Mathlib.Omega.{arith}
-use borrow.Author.Rules.{rules}
 use Rattle.counting.proofs.Full.{stays_small}
 use Rattle.sampling.proofs.booking.with_due.Goals as goal
 

@@ -1,11 +1,9 @@
 -- `sampling::clock::cleared` meets its contract. The loop's invariant: the lines before i begin anew.
-use mathlib.Core.Path.{◌≡◌, refl}
-use Prim.Native.Nat.{◌-◌, ◌≤◌}
+use mathlib.Core.Path.{refl}
 use native.Mathlib.Omega.{arith}
 use borrow.Author.Rules.{rules}
 use Rattle.laws.proofs.Arrays.{length_mapped}
-use Rattle.laws.proofs.Tables.{fill_to, fill_none, fill_more, fill_done}
-use Rattle.counting.specs.Filter.{line_at}
+use Rattle.laws.proofs.Tables.{fill_none, fill_more, fill_done}
 use Rattle.sampling.specs.Periods.{begun_anew, cleared_lines}
 use Rattle.sampling.proofs.clock.cleared.Goals as goal
 

@@ -1,6 +1,5 @@
 -- `sampling::clock::close` meets its contract: the period closes as the step has it, with the present second.
 use mathlib.Core.Path.{◌∙◌}
-use borrow.Author.Rules.{rules}
 use Rattle.sampling.specs.Laps.{closed_here}
 use Rattle.sampling.proofs.clock.close.Goals as goal
 

@@ -1,5 +1,4 @@
 -- `sampling::clock::close_period` meets its contract.
-use borrow.Author.Rules.{rules}
 use Rattle.sampling.specs.Periods.{closed_as}
 use Rattle.sampling.proofs.clock.close_period.Goals as goal
 

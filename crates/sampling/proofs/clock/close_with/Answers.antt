@@ -1,5 +1,4 @@
 -- `sampling::clock::close_with` meets its contract: the period that closes and the lines of the next are what the calls ensure.
-use borrow.Author.Rules.{rules}
 use Rattle.sampling.proofs.clock.close_with.Goals as goal
 
 pub returns : goal.returns

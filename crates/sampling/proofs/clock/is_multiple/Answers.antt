@@ -1,6 +1,5 @@
 -- `sampling::clock::is_multiple` meets its contract.
 use borrow.Author.Tests.{eq-eqb, ne_eqb}
-use borrow.Author.Rules.{rules}
 use Rattle.sampling.specs.Periods.{multiple}
 use Rattle.sampling.proofs.clock.is_multiple.Goals as goal
 

@@ -1,5 +1,4 @@
 -- `sampling::clock::step_state` meets its contract.
-use borrow.Author.Rules.{rules}
 use Rattle.sampling.proofs.clock.step_state.Goals as goal
 
 pub returns-then-is_multiple : goal.returns-then-is_multiple

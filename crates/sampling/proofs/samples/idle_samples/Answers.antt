@@ -1,13 +1,10 @@
 -- `sampling::samples::idle_samples` meets its contract. The invariant of both loops: no line is active in the samples from k to before `at`.
 use mathlib.Core.Path.{◌≡◌}
 use mathlib.Core.List.{List}
-use Prim.Native.Nat.{ℕ, ◌+◌, ◌-◌, ◌<◌, ◌≤◌}
+use Prim.Native.Nat.{ℕ, ◌+◌, ◌-◌, ◌≤◌}
 use native.Mathlib.Nat.{add-zero}
 use native.Mathlib.Omega.{arith}
-use lib.Bits.{bit_and, bit_xor}
 use lib.Dec.{ltb}
-use lib.ListN.{length, get_or}
-use borrow.Author.Rules.{rules}
 use borrow.Author.Tests.{ltb-true, ltb-false}
 use Rattle.laws.proofs.Tests.{by_test}
 use Rattle.sampling.specs.Kept.{Idle}

@@ -1,12 +1,10 @@
 -- `sampling::samples::restored` meets its contract. The loop's invariant: the lines of the mask that are no more in `left` are as they were.
 use mathlib.Core.Path.{refl, sym}
-use Prim.Native.Nat.{◌<◌, ◌≤◌, ◌^◌}
 use native.Mathlib.Omega.{arith}
 use borrow.Author.Rules.{rules}
-use lib.Count.{count_trailing_zeros, trailing_le}
+use lib.Count.{trailing_le}
 use Rattle.laws.proofs.Tables.{table_self}
-use Rattle.counting.specs.Filter.{line_at}
-use Rattle.laws.proofs.Sparse.{Half, half_start, half_turn, half_done, lowest_below, drop_less}
+use Rattle.laws.proofs.Sparse.{half_start, half_turn, half_done, lowest_below, drop_less}
 use Rattle.sampling.specs.Kept.{restored_lines}
 use Rattle.sampling.proofs.samples.restored.Goals as goal
 

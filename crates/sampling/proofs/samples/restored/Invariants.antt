@@ -1,17 +1,12 @@
 -- `sampling::samples::restored` meets its contract. The loop's invariant: the lines of the mask that are no more in `left` are as they were.
-use mathlib.Core.Path.{refl, sym}
 use Prim.Native.Nat.{◌<◌, ◌≤◌, ◌^◌}
-use native.Mathlib.Omega.{arith}
-use borrow.Author.Rules.{rules}
-use lib.Count.{count_trailing_zeros, trailing_le}
-use Rattle.laws.proofs.Tables.{table_self}
+use lib.Count.{count_trailing_zeros}
 use Rattle.counting.specs.Filter.{line_at}
-use Rattle.laws.proofs.Sparse.{Half, half_start, half_turn, half_done, lowest_below, drop_less}
-use Rattle.sampling.specs.Kept.{restored_lines}
+use Rattle.laws.proofs.Sparse.{Half}
 use Rattle.sampling.proofs.samples.restored.Given as goal
 
 abbrev pub invariant-loop-left : goal.invariant-loop-left
-invariant-loop-left l =  (l.left < 2 ^ 16) × (count_trailing_zeros 16 l.left ≤ 16) × Half l.mask l.left (line_at l.old) (line_at l.initial.next) l.next
+invariant-loop-left l = (l.left < 2 ^ 16) × (count_trailing_zeros 16 l.left ≤ 16) × Half l.mask l.left (line_at l.old) (line_at l.initial.next) l.next
 
 abbrev pub decreases-loop-left : goal.decreases-loop-left
-decreases-loop-left l =  l.left
+decreases-loop-left l = l.left

@@ -1,13 +1,11 @@
 -- `sampling::samples::some_of_eight` meets its contract. The loop's invariant: where no bit is on yet, no line is active in the samples before j.
 use mathlib.Core.Path.{◌≡◌}
-use Prim.Native.Nat.{◌-◌, ◌≤◌}
 use native.Mathlib.Omega.{arith}
 use lib.Dec.{ltb}
 use borrow.Author.Rules.{rules}
 use borrow.Author.Tests.{ltb-true, ltb-false}
 use Rattle.laws.proofs.Tests.{by_test}
 use Rattle.laws.proofs.BitTests.{or_none}
-use Rattle.sampling.specs.Kept.{Idle}
 use Rattle.sampling.proofs.samples.some_of_eight.Goals as goal
 
 pub loop-j-init : goal.loop-j-init

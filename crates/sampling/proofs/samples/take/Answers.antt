@@ -1,34 +1,28 @@
 -- `sampling::samples::take` meets its contract. The loop's invariant: what is left to take from the state put together of its parts, counted on from k, is the whole run.
 use mathlib.Core.Path.{◌≡◌, refl, sym, ap, ◌∙◌}
-use mathlib.Core.Bool.{true, false, true≢false}
-use mathlib.Core.Logic.{⊎_elim}
+use mathlib.Core.Bool.{true≢false}
 use mathlib.Core.List.{List}
-use Prim.Native.Nat.{ℕ, ◌+◌, ◌-◌, ◌<◌, ◌≤◌, ◌^◌}
+use Prim.Native.Nat.{ℕ, ◌+◌, ◌<◌, ◌≤◌}
 use native.Mathlib.Omega.{arith}
 use native.Mathlib.Nat.{zero-add}
 use lib.Bits.{bit_and, bit_or, bit_xor}
 use lib.Count.{count_trailing_zeros, trailing_le}
-use lib.ListN.{length, get_or, drop}
+use lib.ListN.{length, get_or}
 use borrow.Author.Rules.{rules}
 use Rattle.laws.proofs.Arrays.{length_mapped}
 use Rattle.laws.proofs.BitTests.{or_none}
 use Rattle.laws.proofs.Masks.{mask_below}
 use Rattle.laws.specs.Tables.{table}
 use Rattle.laws.proofs.Tables.{table_at, length_table, table_self}
-use Rattle.counting.specs.Filter.{input_at, line_at, next_run}
-use Rattle.counting.specs.Bills.{unit_at}
-use Rattle.counting.specs.ByMask.{kind_mask, running_lines, with_run, advanced_lines, settled, settled_units, settled_of, with_amounts}
+use Rattle.counting.specs.Filter.{input_at, line_at}
+use Rattle.counting.specs.ByMask.{kind_mask, advanced_lines, settled, settled_units, settled_of, with_amounts}
 use Rattle.counting.specs.declared.Line.{Line}
 use Rattle.counting.specs.declared.units.Settled.{Settled}
-use Rattle.sampling.specs.Samples.{active_lines, put_in, sample_number}
-use Rattle.sampling.specs.Laps.{lap_of}
-use Rattle.sampling.specs.Kept.{InForce}
-use Rattle.sampling.specs.declared.booking.Tariffs.{Tariffs}
-use Rattle.sampling.specs.declared.SampleAnswer.TheVariants.{Taken}
+use Rattle.sampling.specs.Samples.{active_lines}
 use Rattle.counting.proofs.Parts.{own_amounts}
 use Rattle.laws.proofs.Sparse.{Half, half_start, half_next, half_turn, half_done, lowest_below, drop_less}
 use Rattle.sampling.proofs.Books.{full_booking, Left, unended, ended, still_none, put_back, others_none, ending_below, kept_amounts}
-use Rattle.sampling.proofs.Laps.{after, goes_on, closes_there, is_refused, is_done}
+use Rattle.sampling.proofs.Laps.{goes_on, closes_there, is_refused, is_done}
 use Rattle.sampling.proofs.Turns.{active_mask, counts_on, sample_end, sample_full, sample_counted, sample_ticked, running_after, aged_in_force, idle_on, not_at_end}
 use Rattle.sampling.proofs.samples.take.Invariants.{blank, longer}
 use Rattle.sampling.proofs.samples.take.Lts as Lts
@@ -127,16 +121,16 @@ joined c =
     let i = l.invariant in
     let m = mask (get_or a.bits.now l.k 0) c.kind_mask-s1r.result c.kind_mask.result in
     elim c.if-ending-gt0.branch [
-      then-ending-gt0+else-loop-left-test+else-book w ↦
-        rw w.tariffs-is
-        (ended a.config l.clock l.lines a.start.bills l.amounts m l.running (ends_now l.running m) i.2 refl
-        c.if-ending-gt0.lines c.if-ending-gt0.amounts w.loop-left.units w.tariffs_at-tariffs.result
-        (w.lines-is ∙ settles a.config.inputs l.lines _ _ _ (omega (arith, w.loop-left-test.false)) w.loop-left.invariant.2)
-        (brings a.config.inputs l.lines _ _ _ (omega (arith, w.loop-left-test.false)) w.loop-left.invariant.3)
-        w.tariffs_at-tariffs.ensures (sym w.book.ensures.full ∙ w.if-book.false) (w.amounts-is ∙ w.book.ensures.amounts))
-    | else-ending-gt0 w ↦
-        unended a.config l.clock l.lines a.start.bills l.amounts m l.running (ends_now l.running m) i.2 refl
-        c.if-ending-gt0.lines c.if-ending-gt0.amounts c.if-ending-gt0.tariffs l.tariffs (omega (arith, w.if-ending-gt0.false)) i.3 i.4 i.6 w.lines-is w.amounts-is w.tariffs-is
+      | then-ending-gt0+else-loop-left-test+else-book w ↦
+          rw w.tariffs-is
+          (ended a.config l.clock l.lines a.start.bills l.amounts m l.running (ends_now l.running m) i.2 refl
+          c.if-ending-gt0.lines c.if-ending-gt0.amounts w.loop-left.units w.tariffs_at-tariffs.result
+          (w.lines-is ∙ settles a.config.inputs l.lines _ _ _ (omega (arith, w.loop-left-test.false)) w.loop-left.invariant.2)
+          (brings a.config.inputs l.lines _ _ _ (omega (arith, w.loop-left-test.false)) w.loop-left.invariant.3)
+          w.tariffs_at-tariffs.ensures (sym w.book.ensures.full ∙ w.if-book.false) (w.amounts-is ∙ w.book.ensures.amounts))
+      | else-ending-gt0 w ↦
+          unended a.config l.clock l.lines a.start.bills l.amounts m l.running (ends_now l.running m) i.2 refl
+          c.if-ending-gt0.lines c.if-ending-gt0.amounts c.if-ending-gt0.tariffs l.tariffs (omega (arith, w.if-ending-gt0.false)) i.3 i.4 i.6 w.lines-is w.amounts-is w.tariffs-is
     ]
 
 -- the runs of the active lines go on
@@ -192,27 +186,27 @@ returns c =
     let active : m ≡ active_lines a.config.inputs word = on a.config.inputs _ _ _ c.kind_mask-s1r.ensures c.kind_mask.ensures in
     rw (c.put_in-state.ensures, c.put_amounts.ensures)
     (elim c.loop-k-test.branch [
-      else-loop-k-test w ↦
-        rw (w.clock-is, w.count-is, w.lines-is, w.amounts-is, w.answer-is, w.closes-is, w.k-is, i.7, i.8)
-        (sym (is_done a.config a.start _ a.bits.now l.k i.1 i.0 w.loop-k-test.false))
-    | then-loop-k-test+then-clock-count w ↦
-        let end = sample_end a.config a.start l.clock l.count l.lines (with_amounts a.start.bills l.amounts) word w.if-clock-count.true in
-        rw (w.clock-is, w.count-is, w.lines-is, w.amounts-is, w.answer-is, w.closes-is, w.k-is, i.8)
-        (sym (is_refused a.config a.start _ a.bits.now l.k i.1 5 0 w.loop-k-test.true end))
-    | then-loop-k-test+else-clock-count+then-ending-gt0+else-loop-left-test+then-book w ↦
-        let some = sym w.book.ensures.full ∙ w.if-book.true in
-        let z : w.loop-left.left ≡ 0 = omega (arith, w.loop-left-test.false) in
-        let full = full_booking a.config l.clock l.lines a.start.bills l.amounts m l.running ends i.2 refl w.loop-left.units w.tariffs_at-tariffs.result.fed (brings a.config.inputs l.lines _ _ _ z w.loop-left.invariant.3) w.tariffs_at-tariffs.ensures ∙ some in
-        let refuses = sample_full a.config a.start l.clock l.count l.lines (with_amounts a.start.bills l.amounts) word m active w.if-clock-count.false full in
-        let lines : c.loop-k-test.lines ≡ l.lines = w.lines-is ∙ w.restored-lines.ensures ∙ put_back l.lines w.loop-left.lines w.loop-left.old _ blank ends i.3 (half_done _ _ _ z w.loop-left.invariant.2) (half_done _ _ _ z w.loop-left.invariant.4) in
-        let amounts : c.loop-k-test.amounts ≡ l.amounts = w.amounts-is ∙ w.book.ensures.amounts ∙ kept_amounts _ _ _ _ some in
-        rw (w.clock-is, w.count-is, lines, amounts, w.answer-is, w.closes-is, w.k-is, i.8)
-        (sym (is_refused a.config a.start _ a.bits.now l.k i.1 6 0 w.loop-k-test.true refuses))
-    | then-loop-k-test+else-clock-count+else-loop-left-2-test+else-count-lt99+then-is_multiple w ↦
-        let t = w.if-ending-gt0 in
-        let j : Left a.config l.clock l.lines a.start.bills l.amounts m l.running ends i.2 refl t.lines t.amounts t.tariffs =
-            elim t.branch [
-              then-ending-gt0+else-loop-left-test+else-book v ↦
+      | else-loop-k-test w ↦
+          rw (w.clock-is, w.count-is, w.lines-is, w.amounts-is, w.answer-is, w.closes-is, w.k-is, i.7, i.8)
+          (sym (is_done a.config a.start _ a.bits.now l.k i.1 i.0 w.loop-k-test.false))
+      | then-loop-k-test+then-clock-count w ↦
+          let end = sample_end a.config a.start l.clock l.count l.lines (with_amounts a.start.bills l.amounts) word w.if-clock-count.true in
+          rw (w.clock-is, w.count-is, w.lines-is, w.amounts-is, w.answer-is, w.closes-is, w.k-is, i.8)
+          (sym (is_refused a.config a.start _ a.bits.now l.k i.1 5 0 w.loop-k-test.true end))
+      | then-loop-k-test+else-clock-count+then-ending-gt0+else-loop-left-test+then-book w ↦
+          let some = sym w.book.ensures.full ∙ w.if-book.true in
+          let z : w.loop-left.left ≡ 0 = omega (arith, w.loop-left-test.false) in
+          let full = full_booking a.config l.clock l.lines a.start.bills l.amounts m l.running ends i.2 refl w.loop-left.units w.tariffs_at-tariffs.result.fed (brings a.config.inputs l.lines _ _ _ z w.loop-left.invariant.3) w.tariffs_at-tariffs.ensures ∙ some in
+          let refuses = sample_full a.config a.start l.clock l.count l.lines (with_amounts a.start.bills l.amounts) word m active w.if-clock-count.false full in
+          let lines : c.loop-k-test.lines ≡ l.lines = w.lines-is ∙ w.restored-lines.ensures ∙ put_back l.lines w.loop-left.lines w.loop-left.old _ blank ends i.3 (half_done _ _ _ z w.loop-left.invariant.2) (half_done _ _ _ z w.loop-left.invariant.4) in
+          let amounts : c.loop-k-test.amounts ≡ l.amounts = w.amounts-is ∙ w.book.ensures.amounts ∙ kept_amounts _ _ _ _ some in
+          rw (w.clock-is, w.count-is, lines, amounts, w.answer-is, w.closes-is, w.k-is, i.8)
+          (sym (is_refused a.config a.start _ a.bits.now l.k i.1 6 0 w.loop-k-test.true refuses))
+      | then-loop-k-test+else-clock-count+else-loop-left-2-test+else-count-lt99+then-is_multiple w ↦
+          let t = w.if-ending-gt0 in
+          let j : Left a.config l.clock l.lines a.start.bills l.amounts m l.running ends i.2 refl t.lines t.amounts t.tariffs =
+          elim t.branch [
+            | then-ending-gt0+else-loop-left-test+else-book v ↦
                 rw v.tariffs-is
                 (ended a.config l.clock l.lines a.start.bills l.amounts m l.running ends i.2 refl
                 t.lines t.amounts v.loop-left.units v.tariffs_at-tariffs.result
@@ -222,11 +216,11 @@ returns c =
             | else-ending-gt0 v ↦
                 unended a.config l.clock l.lines a.start.bills l.amounts m l.running ends i.2 refl
                 t.lines t.amounts t.tariffs l.tariffs (omega (arith, v.if-ending-gt0.false)) i.3 i.4 i.6 v.lines-is v.amounts-is v.tariffs-is
-            ] in
-        let ticked = sample_ticked a.config a.start l.clock l.count _ _ word _ m active j.books w.if-clock-count.false w.if-count-lt99.false refl in
-        let lines : c.loop-k-test.lines ≡ advanced_lines t.lines m = w.lines-is ∙ advanced _ _ _ _ (omega (arith, w.loop-left-2-test.false)) w.loop-left-2.invariant.2 in
-        rw (w.clock-is, w.count-is, lines, w.amounts-is, w.answer-is, w.closes-is, w.k-is, i.7)
-        (sym (closes_there a.config a.start _ a.bits.now l.k i.1 _ w.loop-k-test.true ticked (sym w.is_multiple.ensures ∙ w.if-is_multiple.true)))
+          ] in
+          let ticked = sample_ticked a.config a.start l.clock l.count _ _ word _ m active j.books w.if-clock-count.false w.if-count-lt99.false refl in
+          let lines : c.loop-k-test.lines ≡ advanced_lines t.lines m = w.lines-is ∙ advanced _ _ _ _ (omega (arith, w.loop-left-2-test.false)) w.loop-left-2.invariant.2 in
+          rw (w.clock-is, w.count-is, lines, w.amounts-is, w.answer-is, w.closes-is, w.k-is, i.7)
+          (sym (closes_there a.config a.start _ a.bits.now l.k i.1 _ w.loop-k-test.true ticked (sym w.is_multiple.ensures ∙ w.if-is_multiple.true)))
     ])
 
 pub overflow_cast-count : goal.overflow_cast-count

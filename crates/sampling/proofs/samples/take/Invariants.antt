@@ -1,35 +1,20 @@
 -- `sampling::samples::take` meets its contract. The loop's invariant: what is left to take from the state put together of its parts, counted on from k, is the whole run.
-use mathlib.Core.Path.{◌≡◌, refl, sym, ap, ◌∙◌}
-use mathlib.Core.Bool.{true, false, true≢false}
-use mathlib.Core.Logic.{⊎_elim}
+use mathlib.Core.Path.{◌≡◌}
+use mathlib.Core.Bool.{true, false}
 use mathlib.Core.List.{List}
-use Prim.Native.Nat.{ℕ, ◌+◌, ◌-◌, ◌<◌, ◌≤◌, ◌^◌}
-use native.Mathlib.Omega.{arith}
-use native.Mathlib.Nat.{zero-add}
-use lib.Bits.{bit_and, bit_or, bit_xor}
-use lib.Count.{count_trailing_zeros, trailing_le}
-use lib.ListN.{length, get_or, drop}
-use borrow.Author.Rules.{rules}
-use Rattle.laws.proofs.Arrays.{length_mapped}
-use Rattle.laws.proofs.BitTests.{or_none}
-use Rattle.laws.proofs.Masks.{mask_below}
-use Rattle.laws.specs.Tables.{table}
-use Rattle.laws.proofs.Tables.{table_at, length_table, table_self}
+use Prim.Native.Nat.{ℕ, ◌-◌, ◌<◌, ◌≤◌, ◌^◌}
+use lib.Count.{count_trailing_zeros}
+use lib.ListN.{length, drop}
 use Rattle.counting.specs.Filter.{input_at, line_at, next_run}
 use Rattle.counting.specs.Bills.{unit_at}
-use Rattle.counting.specs.ByMask.{running_lines, with_run, advanced_lines, settled, settled_units, settled_of, with_amounts}
+use Rattle.counting.specs.ByMask.{running_lines, with_run, settled, settled_units, with_amounts}
 use Rattle.counting.specs.declared.Line.{Line}
-use Rattle.counting.specs.declared.units.Settled.{Settled}
-use Rattle.sampling.specs.Samples.{active_lines, put_in, sample_number}
+use Rattle.sampling.specs.Samples.{put_in}
 use Rattle.sampling.specs.Laps.{lap_of}
 use Rattle.sampling.specs.Kept.{InForce}
-use Rattle.sampling.specs.declared.booking.Tariffs.{Tariffs}
 use Rattle.sampling.specs.declared.SampleAnswer.TheVariants.{Taken}
-use Rattle.counting.proofs.Parts.{own_amounts}
-use Rattle.laws.proofs.Sparse.{Half, half_start, half_next, half_turn, half_done, lowest_below, drop_less}
-use Rattle.sampling.proofs.Books.{full_booking, Left, unended, ended, still_none, put_back, others_none, ending_below, kept_amounts}
-use Rattle.sampling.proofs.Laps.{after, goes_on, closes_there, is_refused, is_done}
-use Rattle.sampling.proofs.Turns.{active_mask, counts_on, sample_end, sample_full, sample_counted, sample_ticked, running_after, aged_in_force, idle_on, not_at_end}
+use Rattle.laws.proofs.Sparse.{Half}
+use Rattle.sampling.proofs.Laps.{after}
 use Rattle.sampling.proofs.samples.take.Given as goal
 
 -- a line of nothing
@@ -46,7 +31,7 @@ invariant-loop-left l =
     × (l.brought ≡ 0 → (i : ℕ) → i < 16 → unit_at l.units i ≡ 0)
 
 abbrev pub decreases-loop-left : goal.decreases-loop-left
-decreases-loop-left l =  l.left
+decreases-loop-left l = l.left
 
 -- a line whose run goes on
 abbrev pub longer : List Line → ℕ → Line
@@ -58,7 +43,7 @@ invariant-loop-left-2 l =
     (l.left < 2 ^ 16) × (count_trailing_zeros 16 l.left ≤ 16) × Half l.active l.left (longer l.initial.lines) (line_at l.initial.lines) l.lines
 
 abbrev pub decreases-loop-left-2 : goal.decreases-loop-left-2
-decreases-loop-left-2 l =  l.left
+decreases-loop-left-2 l = l.left
 
 abbrev pub invariant-loop-k : goal.invariant-loop-k
 invariant-loop-k l =
@@ -73,4 +58,4 @@ invariant-loop-k l =
     × (l.closes ≡ false)
 
 abbrev pub decreases-loop-k : goal.decreases-loop-k
-decreases-loop-k l =  length l.bits - l.k
+decreases-loop-k l = length l.bits - l.k

@@ -1,10 +1,10 @@
 -- `display::give` meets its contract. The loop's invariant: the first i bytes are those of the display, the others the buffer's own.
 use mathlib.Core.Path.{◌≡◌, refl, ap, ◌∙◌}
-use mathlib.Core.List.{List, ◌++◌}
-use Prim.Native.Nat.{ℕ, ◌-◌, ◌≤◌}
+use mathlib.Core.List.{List}
+use Prim.Native.Nat.{ℕ}
 use native.Mathlib.Omega.{arith}
 use borrow.Author.Rules.{rules}
-use lib.ListN.{length, take, drop, set, get_or, length-set}
+use lib.ListN.{set, get_or, length-set}
 use lib.Seq.{take_all}
 use Rattle.laws.proofs.Stores.{one_copied}
 use Rattle.display.proofs.give.Goals as goal

@@ -1,8 +1,7 @@
 -- `display::is_break` meets its contract: each return knows the tests before it; a break has two bytes.
-use Prim.Native.Nat.{◌-◌, ◌≤◌}
+use Prim.Native.Nat.{◌≤◌}
 use native.Mathlib.Nat.{add-zero}
 use native.Mathlib.Omega.{arith}
-use borrow.Author.Rules.{rules}
 use lib.Dec.{eqb}
 use lib.ListN.{length, get_or, drop, get_or-eq_default, length-drop, drop_of_length-le}
 use lib.Seq.{get_or-drop}

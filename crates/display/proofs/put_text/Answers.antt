@@ -1,5 +1,4 @@
 -- `display::put_text` meets its contract: by the test.
-use borrow.Author.Rules.{rules}
 use Rattle.display.proofs.put_text.Goals as goal
 
 pub returns-then-broken : goal.returns-then-broken

@@ -4,7 +4,7 @@ use native.Mathlib.Omega.{arith}
 use Rattle.display.proofs.fields.is_signed.Goals as goal
 
 pub returns-in_default : goal.returns-in_default
-returns-in_default c = 
+returns-in_default c =
     let g = c.args.group in rw (ne_eqb g 82 (λ e. omega arith), ne_eqb g 201 (λ e. omega arith), ne_eqb g 204 (λ e. omega arith))
 
 pub returns-in-82 : goal.returns-in-82

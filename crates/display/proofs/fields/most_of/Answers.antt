@@ -1,10 +1,9 @@
 -- `display::fields::most_of` meets its contract. The loop's invariant: the number so far is the largest of as many bytes.
 use mathlib.Core.Path.{◌≡◌}
-use Prim.Native.Nat.{◌+◌, ◌-◌, ◌^◌, ◌≤◌}
+use Prim.Native.Nat.{◌^◌, ◌≤◌}
 use native.Mathlib.Nat.{pow-suc, pow-le-pow_right}
 use native.Mathlib.Numerals.{add-one}
 use native.Mathlib.Omega.{arith}
-use borrow.Author.Rules.{rules}
 use Rattle.display.proofs.fields.most_of.Goals as goal
 
 pub loop-init : goal.loop-init

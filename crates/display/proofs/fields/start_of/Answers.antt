@@ -1,12 +1,10 @@
 -- `display::fields::start_of` meets its contract. The loop's invariant: the bytes so far are added up.
-use mathlib.Core.Path.{◌≡◌, refl}
-use Prim.Native.Nat.{ℕ, ◌-◌, ◌*◌, ◌≤◌}
+use mathlib.Core.Path.{refl}
+use Prim.Native.Nat.{ℕ}
 use native.Mathlib.Omega.{arith}
-use borrow.Author.Rules.{rules}
 use mir.Syntax.{w8}
 use mir.Val.{Fits}
 use lib.ListN.{get_or}
-use Rattle.laws.specs.Total.{total}
 use Rattle.laws.proofs.Arrays.{elem_fits}
 use Rattle.laws.proofs.Total.{total_none, total_turn, total_done}
 use Rattle.display.proofs.fields.start_of.Goals as goal

@@ -1,18 +1,12 @@
 -- `display::fields::start_of` meets its contract. The loop's invariant: the bytes so far are added up.
-use mathlib.Core.Path.{◌≡◌, refl}
-use Prim.Native.Nat.{ℕ, ◌-◌, ◌*◌, ◌≤◌}
-use native.Mathlib.Omega.{arith}
-use borrow.Author.Rules.{rules}
-use mir.Syntax.{w8}
-use mir.Val.{Fits}
+use mathlib.Core.Path.{◌≡◌}
+use Prim.Native.Nat.{◌-◌, ◌*◌, ◌≤◌}
 use lib.ListN.{get_or}
 use Rattle.laws.specs.Total.{total}
-use Rattle.laws.proofs.Arrays.{elem_fits}
-use Rattle.laws.proofs.Total.{total_none, total_turn, total_done}
 use Rattle.display.proofs.fields.start_of.Given as goal
 
 abbrev pub invariant-loop-j : goal.invariant-loop-j
-invariant-loop-j l =  (l.j ≤ l.k) × (l.start ≡ total l.j (λ i. get_or l.bytes i 0)) × (l.start ≤ l.j * 255)
+invariant-loop-j l = (l.j ≤ l.k) × (l.start ≡ total l.j (λ i. get_or l.bytes i 0)) × (l.start ≤ l.j * 255)
 
 abbrev pub decreases-loop-j : goal.decreases-loop-j
-decreases-loop-j l =  l.k - l.j
+decreases-loop-j l = l.k - l.j

@@ -1,7 +1,6 @@
 -- `display::formats::bad` meets its contract: all that is left is the length of what stands from there on.
 use mathlib.Core.Path.{sym, ap}
 use Prim.Native.Nat.{ℕ}
-use borrow.Author.Rules.{rules}
 use lib.ListN.{length-drop}
 use Rattle.display.specs.Formats.{bad_format, begun}
 use Rattle.display.proofs.formats.bad.Goals as goal

@@ -1,6 +1,5 @@
 -- `display::formats::byte_at` meets its contract: past the end it is the 0 of `get_or`.
 use mathlib.Core.Path.{sym}
-use borrow.Author.Rules.{rules}
 use lib.ListN.{get_or-eq_default}
 use Rattle.display.proofs.formats.byte_at.Goals as goal
 

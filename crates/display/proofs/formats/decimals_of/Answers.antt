@@ -1,6 +1,5 @@
 -- `display::formats::decimals_of` meets its contract: by the test.
 use native.Mathlib.Omega.{arith}
-use borrow.Author.Rules.{rules}
 use borrow.Author.Tests.{leb-true}
 use lib.Dec.{leb}
 use Rattle.laws.specs.Decimals.{is_digit}

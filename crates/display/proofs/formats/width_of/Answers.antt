@@ -1,7 +1,6 @@
 -- `display::formats::width_of` meets its contract: each return knows the tests before it.
 use mathlib.Core.Bool.{◌&&◌}
 use native.Mathlib.Omega.{arith}
-use borrow.Author.Rules.{rules}
 use borrow.Author.Tests.{leb-true}
 use lib.Dec.{leb, eqb}
 use Rattle.laws.proofs.Tests.{and_left, and_right}

@@ -1,10 +1,9 @@
 -- `display::numbers::over_tens` meets its contract. The loop's invariant: the number over as many tens.
 use mathlib.Core.Path.{◌≡◌, sym, ◌∙◌}
-use Prim.Native.Nat.{◌-◌, ◌/◌, ◌^◌, ◌≤◌}
+use Prim.Native.Nat.{◌^◌}
 use native.Mathlib.Nat.{pow-suc, div-div-eq-div-mul, div-one}
 use native.Mathlib.Numerals.{add-one}
 use native.Mathlib.Omega.{arith}
-use borrow.Author.Rules.{rules}
 use Rattle.display.proofs.numbers.over_tens.Goals as goal
 
 pub loop-init : goal.loop-init

@@ -1,5 +1,4 @@
 -- `display::numbers::put_date` meets its contract: with a date and without one.
-use borrow.Author.Rules.{rules}
 use Rattle.display.specs.Steps.{puts_of}
 use Rattle.display.proofs.numbers.put_date.Goals as goal
 

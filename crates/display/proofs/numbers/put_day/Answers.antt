@@ -1,7 +1,6 @@
 -- `display::numbers::put_day` meets its contract: its parts one after another.
 use mathlib.Core.Path.{sym, ◌∙◌}
 use mathlib.Core.List.{◌∷◌, ◌++◌}
-use borrow.Author.Rules.{rules}
 use Rattle.laws.specs.Decimals.{last_digits}
 use Rattle.display.specs.Steps.{puts_of}
 use Rattle.display.proofs.Screens.{puts_split}

@@ -1,6 +1,5 @@
 -- `display::numbers::put_digits` meets its contract: the digits of a number are its last ones, all of them; the point follows.
 use mathlib.Core.Path.{sym}
-use borrow.Author.Rules.{rules}
 use Rattle.laws.specs.Decimals.{decimal_of}
 use Rattle.laws.proofs.Digits.{decimal_last}
 use Rattle.readout.specs.Numbers.{pointed}

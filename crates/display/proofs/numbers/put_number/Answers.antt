@@ -1,7 +1,6 @@
 -- `display::numbers::put_number` meets its contract: sign, zeros and digits; or blanks, sign and digits.
 use mathlib.Core.Path.{sym, ◌∙◌}
 use mathlib.Core.List.{◌++◌}
-use borrow.Author.Rules.{rules}
 use lib.ListN.{replicate}
 use Rattle.laws.specs.Decimals.{decimal_of}
 use Rattle.readout.specs.Numbers.{sign_text, pointed}

@@ -1,5 +1,4 @@
 -- `display::numbers::put_point` meets its contract: by the decimals and the u.
-use borrow.Author.Rules.{rules}
 use Rattle.display.specs.Steps.{puts_of}
 use Rattle.display.proofs.Numerals.{nothing, something}
 use Rattle.display.proofs.numbers.put_point.Goals as goal

@@ -1,9 +1,8 @@
 -- `display::numbers::put_same` meets its contract. The loop's invariant: what is shown and what is left make the whole.
-use mathlib.Core.Path.{◌≡◌, refl, sym, ap, ◌∙◌}
-use Prim.Native.Nat.{◌+◌, ◌-◌, ◌≤◌}
+use mathlib.Core.Path.{refl, sym, ap, ◌∙◌}
+use Prim.Native.Nat.{◌+◌, ◌-◌}
 use native.Mathlib.Nat.{sub-zero}
 use native.Mathlib.Omega.{arith}
-use borrow.Author.Rules.{rules}
 use lib.ListN.{replicate}
 use Rattle.display.specs.Steps.{puts_of}
 use Rattle.display.specs.declared.screen.Screen.{Screen}

@@ -1,5 +1,4 @@
 -- `display::numbers::put_sign` meets its contract: by the sign.
-use borrow.Author.Rules.{rules}
 use Rattle.display.specs.Steps.{puts_of}
 use Rattle.display.proofs.numbers.put_sign.Goals as goal
 

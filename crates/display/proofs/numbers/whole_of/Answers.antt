@@ -1,5 +1,4 @@
 -- `display::numbers::whole_of` meets its contract: by the u.
-use borrow.Author.Rules.{rules}
 use Rattle.display.proofs.numbers.whole_of.Goals as goal
 
 pub returns-then-form : goal.returns-then-form

@@ -1,5 +1,4 @@
 -- `display::screen::put` meets its contract: each return knows the tests before it.
-use borrow.Author.Rules.{rules}
 use borrow.Author.Tests.{le-leb, lt-leb}
 use Rattle.display.specs.Steps.{put_of}
 use Rattle.display.proofs.screen.put.Goals as goal

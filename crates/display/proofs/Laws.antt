@@ -93,10 +93,14 @@ module _ (clock : ℕ) (read : ℕ → ℕ → Answer (List ℕ)) where
       → shown_by clock read arguments parts ≡ refused n offset → shown_by clock read arguments (parts ++ later) ≡ refused n offset
   unfolding shown_by
   first_refusal arguments [] later n offset e = absurd (true≢false (ap is_given_lem e))
-  first_refusal arguments (letter b ∷ parts) later n offset e = stays _ _ _ n offset (first_refusal arguments parts later n offset) e
-  first_refusal arguments (line_break ∷ parts) later n offset e = stays _ _ _ n offset (first_refusal arguments parts later n offset) e
-  first_refusal arguments (the_date ∷ parts) later n offset e = stays _ _ _ n offset (first_refusal arguments parts later n offset) e
-  first_refusal arguments (the_time ∷ parts) later n offset e = stays _ _ _ n offset (first_refusal arguments parts later n offset) e
+  first_refusal arguments (letter b ∷ parts) later n offset e =
+      stays (character b ∷ []) (shown_by clock read arguments parts) (shown_by clock read arguments (parts ++ later)) n offset (first_refusal arguments parts later n offset) e
+  first_refusal arguments (line_break ∷ parts) later n offset e =
+      stays (new_line ∷ []) (shown_by clock read arguments parts) (shown_by clock read arguments (parts ++ later)) n offset (first_refusal arguments parts later n offset) e
+  first_refusal arguments (the_date ∷ parts) later n offset e =
+      stays (characters (date_shown (moment_of clock))) (shown_by clock read arguments parts) (shown_by clock read arguments (parts ++ later)) n offset (first_refusal arguments parts later n offset) e
+  first_refusal arguments (the_time ∷ parts) later n offset e =
+      stays (characters (time_shown (moment_of clock))) (shown_by clock read arguments parts) (shown_by clock read arguments (parts ++ later)) n offset (first_refusal arguments parts later n offset) e
   first_refusal arguments (number form ∷ parts) later n offset e =
       by_answer (argument_of read arguments)
       (λ v g.
@@ -119,10 +123,14 @@ module _ (clock : ℕ) (read : ℕ → ℕ → Answer (List ℕ)) where
       → shown_by clock read arguments parts ≡ given marks → shown_by clock read (arguments ++ more) parts ≡ given marks
   unfolding shown_by
   spare arguments more [] marks e = e
-  spare arguments more (letter b ∷ parts) marks e = let s = preceded_given _ _ marks e in rw (spare arguments more parts s.0 s.1) (ap given (sym s.2))
-  spare arguments more (line_break ∷ parts) marks e = let s = preceded_given _ _ marks e in rw (spare arguments more parts s.0 s.1) (ap given (sym s.2))
-  spare arguments more (the_date ∷ parts) marks e = let s = preceded_given _ _ marks e in rw (spare arguments more parts s.0 s.1) (ap given (sym s.2))
-  spare arguments more (the_time ∷ parts) marks e = let s = preceded_given _ _ marks e in rw (spare arguments more parts s.0 s.1) (ap given (sym s.2))
+  spare arguments more (letter b ∷ parts) marks e =
+      let s = preceded_given (character b ∷ []) (shown_by clock read arguments parts) marks e in rw (spare arguments more parts s.0 s.1) (ap given (sym s.2))
+  spare arguments more (line_break ∷ parts) marks e =
+      let s = preceded_given (new_line ∷ []) (shown_by clock read arguments parts) marks e in rw (spare arguments more parts s.0 s.1) (ap given (sym s.2))
+  spare arguments more (the_date ∷ parts) marks e =
+      let s = preceded_given (characters (date_shown (moment_of clock))) (shown_by clock read arguments parts) marks e in rw (spare arguments more parts s.0 s.1) (ap given (sym s.2))
+  spare arguments more (the_time ∷ parts) marks e =
+      let s = preceded_given (characters (time_shown (moment_of clock))) (shown_by clock read arguments parts) marks e in rw (spare arguments more parts s.0 s.1) (ap given (sym s.2))
   spare arguments more (number form ∷ parts) marks e =
       by_answer (argument_of read arguments)
       (λ v g.

@@ -2,16 +2,13 @@
 use mathlib.Core.Path.{◌≡◌, refl, sym, ap, ◌∙◌}
 use mathlib.Core.Bool.{Bool, true, false, true≢false, ◌&&◌}
 use mathlib.Core.List.{List, [], ◌∷◌, ◌++◌}
-use Prim.Native.Nat.{ℕ, zero, suc, ◌+◌, ◌-◌, ◌^◌, ◌≤◌, ◌<◌}
+use Prim.Native.Nat.{ℕ, zero, suc, ◌+◌, ◌^◌, ◌≤◌, ◌<◌}
 use native.Mathlib.Nat.{not-suc-le-zero}
 use native.Mathlib.Omega.{arith}
 use borrow.Author.Tests.{eqb-true, ne_eqb, leb-true, ltb-true, ltb-false}
 use lib.Dec.{eqb, leb, ltb}
 use lib.ListN.{length, get_or, take, drop, replicate, get_or-eq_default}
 use lib.Seq.{get_or-drop, drop-append-add}
-use types.Run.{OneOf}
-use denote.Enum.Declared
-use mathlib.Core.Logic.{⊎_elim}
 use Rattle.laws.specs.Answers.{given, refused}
 use Rattle.laws.specs.Bytes.{bytes_of, le}
 use Rattle.laws.specs.Each.{Each}
@@ -27,7 +24,6 @@ use Rattle.recorder.specs.declared.Recorder.{Recorder}
 use Rattle.registers.specs.Registers.{Group, groups, look_up, group_of, RegisterReply, register_said, replied, register_reply}
 use Rattle.registers.specs.declared.RegisterAnswer.{RegisterAnswer}
 use Rattle.registers.specs.declared.RegisterAnswer.TheVariants.{Given, NoGroup, NoRegister, NotFitted, NoRoom}
-use Rattle.registers.specs.contracts.RegisterAnswer as register_answer
 use Rattle.registers.proofs.Groups.{is_given_lem, the, each_found}
 use Rattle.registers.proofs.Laws.{held_long, given_first}
 use Rattle.display.specs.Fields.{field_bytes, is_signed, start_of, signed_value, field_given, field_of, bytes_given, read_by}
@@ -140,9 +136,9 @@ module _ (r : Recorder) (group register : ℕ) (buffer : List ℕ) (m : ℕ) (e 
   given_room = (given_first r group register buffer m e).1
 
 -- where it is not, there is no field
-not_given : (x : RegisterAnswer) → OneOf (1 ∷ 2 ∷ 3 ∷ 4 ∷ []) (Declared.tag_of register_answer.the_type x) → (group field : ℕ) (bytes : List ℕ)
+not_given : (x : RegisterAnswer) → ((n : ℕ) → x ≡ Given n → ⊥) → (group field : ℕ) (bytes : List ℕ)
     → field_given group field (bytes_given (register_said x) bytes) ≡ refused 22 0
-not_given (Given n) k group field bytes = absurd (⊎_elim (λ h. omega arith) (⊎_elim (λ h. omega arith) (⊎_elim (λ h. omega arith) (λ h. omega arith))) k)
+not_given (Given n) k group field bytes = absurd (k n refl)
 not_given NoGroup k group field bytes = refl
 not_given NoRegister k group field bytes = refl
 not_given NotFitted k group field bytes = refl
@@ -164,7 +160,7 @@ module _ (r : Recorder) (group register : ℕ) (x : RegisterAnswer) (bytes : Lis
   unfolding read_by
   read_as = ap (λ (y : RegisterReply). bytes_given y.answer y.buffer) (sym e)
 
-  pub field_refused : OneOf (1 ∷ 2 ∷ 3 ∷ 4 ∷ []) (Declared.tag_of register_answer.the_type x) → refused 22 0 ≡ field_of (read_by r) group register field
+  pub field_refused : ((n : ℕ) → x ≡ Given n → ⊥) → refused 22 0 ≡ field_of (read_by r) group register field
   field_refused k = sym (ap (field_given group field) read_as ∙ not_given x k group field bytes)
 
   module _ (m : ℕ) (g : x ≡ Given m) where

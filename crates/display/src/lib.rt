@@ -1,5 +1,6 @@
 // The hall display: two lines of sixteen characters, driven by a format string. A text step and a specification step call each other until the string ends.
 #![tactic(auto)]
+
 mod fields;
 mod formats;
 mod numbers;

@@ -4,7 +4,7 @@ use Rattle.laws.specs.Answers.{given}
 use Rattle.laws.specs.Each.{Each}
 use Rattle.recorder.specs.History.{Call, set, reading}
 use Rattle.recorder.specs.declared.Setup.{Setup}
-use Rattle.registers.specs.Cases.{AgeCase, class_at_lem, status_at, AgeClaim}
+use Rattle.registers.specs.Cases.{AgeCase, class_case, status_at, AgeClaim}
 use Rattle.registers.specs.Fleet.{fleet_of}
 use Rattle.registers.specs.Registers.{register_reply}
 use Rattle.registers.specs.declared.fleet.Fleet.{Fleet}
@@ -13,7 +13,7 @@ use Rattle.worked.specs.Example.{two_makers, start}
 
 -- limit 900, stamp 1000, STATUS 6. At 999, a second ahead, it is stale, 1, and STATUS reads 7; at 1000 awake, 0, and it reads 6; at 0, ahead by more than the limit, stale
 abbrev pub ahead_cases : List AgeCase
-ahead_cases = class_at_lem 999 1 ∷ status_at 999 7 ∷ class_at_lem 1000 0 ∷ status_at 1000 6 ∷ class_at_lem 0 1 ∷ status_at 0 7 ∷ []
+ahead_cases = class_case 999 1 ∷ status_at 999 7 ∷ class_case 1000 0 ∷ status_at 1000 6 ∷ class_case 0 1 ∷ status_at 0 7 ∷ []
 
 -- at noon, 43,200, meters 0, 1 and 2 are heard for the last time: 21, 7 and -5, the last two with STATUS 4 and 2. Meter 3 was never read; all have the limit 900
 abbrev pub last_heard : List Call

@@ -1,5 +1,6 @@
 // The lines that answer calls, each with its end.
 #![tactic(auto)]
+
 mod dates;
 mod errors;
 mod numbers;

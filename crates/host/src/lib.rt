@@ -1,5 +1,6 @@
-// What the dashboard's host, written in C, asks directly: numbers and bytes only. include/recorder.h declares these functions for it.
+// What the dashboard's host, written in C, asks directly: numbers and bytes only. Crate host_c gives it these functions, and include/recorder.h declares them.
 #![tactic(auto)]
+
 ghost use Rattle.std.specs.Prelude.{◌≡◌, ◌<◌};
 ghost use Rattle.laws.specs.Answers.{given, refused};
 ghost use Rattle.calendar.specs.Moments.{moment_of};
@@ -20,8 +21,7 @@ fn refusal(number: u32, offset: usize) -> u32
 }
 
 // 0 where the image is accepted.
-#[unsafe(no_mangle)]
-pub extern "C" fn recorder_image_check(image: &[u8]) -> u32
+pub fn recorder_image_check(image: &[u8]) -> u32
     ensures { result ≡ image_number (image_answer image.now) }
 {
     match image::check_image(image) {
@@ -47,8 +47,7 @@ fn packed(m: Moment) -> u64
 }
 
 // 0 where the second has no date.
-#[unsafe(no_mangle)]
-pub extern "C" fn recorder_calendar(seconds: u32) -> u64
+pub fn recorder_calendar(seconds: u32) -> u64
     ensures { result ≡ moment_number (moment_of seconds) }
 {
     match calendar::moment_of(seconds) {
@@ -69,14 +68,7 @@ fn class_number(age: Age) -> u32
 }
 
 // The class of a meter, or the number of the refusal. `read` is 0 where the meter was never read.
-#[unsafe(no_mangle)]
-pub extern "C" fn recorder_age_class(
-    limit: u32,
-    read: u32,
-    stamp: u32,
-    status: u32,
-    clock: u32,
-) -> u32
+pub fn recorder_age_class(limit: u32, read: u32, stamp: u32, status: u32, clock: u32) -> u32
     ensures { result ≡ answer_number (age_of limit (said_yes read) stamp status clock) }
 {
     match recorder::age_answer(limit, read != 0, stamp, status, clock) {

@@ -2,7 +2,8 @@
  * The three questions that a C program may ask the hall recorder: is this configuration image good, what moment is this second of the clock, and how
  * fresh is this meter's reading.
  *
- * The functions are in libhost.a, for x86-64 Linux (`rt staticlib host`). Each is proved against its contract in crates/host.
+ * The functions are in libhost.a, for x86-64 Linux: tests/run writes it, from what `rt lib` makes in crates/host_c. Each is proved against its contract
+ * in crates/host.
  *
  * - They answer every input: nothing has to be checked before a call, but for the pointer of recorder_image_check.
  * - They allocate nothing, write to no memory but their own stack, keep nothing from one call to the next and read no clock. So threads may call them at

@@ -6,6 +6,7 @@ use makers::MakerAnswer;
 use readout::NumberAnswer;
 use recorder::{MakerList, RecordAnswer, Recorder, SampleAnswer, SetAnswer, Setup};
 use registers::RegisterAnswer;
+use std::io;
 
 // Tuesday 01.04.1997, 00:00.
 const START: u32 = 859852800;
@@ -63,7 +64,13 @@ fn refusal(answer: SampleAnswer) -> u64 {
 }
 
 // All samples in one call, and then again. The check sum is of the refusals.
-fn samples(recorder: Recorder, bits: [u16; 1000], rounds: u32, buffer: &mut [u8]) {
+fn samples(
+    rt: &impl Print,
+    recorder: Recorder,
+    bits: [u16; 1000],
+    rounds: u32,
+    buffer: &mut [u8],
+) -> io::Result<()> {
     let mut now = recorder;
     let mut sum: u64 = 0;
     for i in 0..rounds {
@@ -72,12 +79,18 @@ fn samples(recorder: Recorder, bits: [u16; 1000], rounds: u32, buffer: &mut [u8]
         let answer = run.answer;
         sum = mixed(sum, refusal(answer));
     }
-    write_number(sum);
-    write_registers(now);
+    write_number(rt, sum)?;
+    write_registers(rt, now)
 }
 
 // The same samples, each in a call of its own.
-fn singles(recorder: Recorder, bits: [u16; 1000], rounds: u32, buffer: &mut [u8]) {
+fn singles(
+    rt: &impl Print,
+    recorder: Recorder,
+    bits: [u16; 1000],
+    rounds: u32,
+    buffer: &mut [u8],
+) -> io::Result<()> {
     let mut now = recorder;
     let mut sum: u64 = 0;
     for i in 0..rounds {
@@ -88,8 +101,8 @@ fn singles(recorder: Recorder, bits: [u16; 1000], rounds: u32, buffer: &mut [u8]
             sum = mixed(sum, refusal(answer));
         }
     }
-    write_number(sum);
-    write_registers(now);
+    write_number(rt, sum)?;
+    write_registers(rt, now)
 }
 
 fn image_number(answer: ImageAnswer) -> u64 {
@@ -103,14 +116,14 @@ fn image_number(answer: ImageAnswer) -> u64 {
 }
 
 // The image with another age limit each time, which breaks no rule.
-fn images(image: [u8; IMAGE_LENGTH], rounds: u32) {
+fn images(rt: &impl Print, image: [u8; IMAGE_LENGTH], rounds: u32) -> io::Result<()> {
     let mut bytes = image;
     let mut sum: u64 = 0;
     for i in 0..(rounds as usize) {
         bytes[198 + i % 64] = (i % 256) as u8;
         sum = mixed(sum, image_number(image::check_image(&bytes)));
     }
-    write_number(sum);
+    write_number(rt, sum)
 }
 
 fn given(answer: RegisterAnswer) -> u64 {
@@ -147,12 +160,12 @@ fn read_groups(recorder: Recorder, i: u32) -> u64 {
     mixed(sum, read(recorder, 206, 0))
 }
 
-fn reads(recorder: Recorder, rounds: u32) {
+fn reads(rt: &impl Print, recorder: Recorder, rounds: u32) -> io::Result<()> {
     let mut sum: u64 = 0;
     for i in 0..rounds {
         sum = mixed(sum, read_groups(recorder, i));
     }
-    write_number(sum);
+    write_number(rt, sum)
 }
 
 fn own_given(answer: MakerAnswer) -> u64 {
@@ -178,12 +191,12 @@ fn own_groups(recorder: Recorder, i: u32) -> u64 {
     mixed(sum, own(recorder, 204, 0))
 }
 
-fn own_reads(recorder: Recorder, rounds: u32) {
+fn own_reads(rt: &impl Print, recorder: Recorder, rounds: u32) -> io::Result<()> {
     let mut sum: u64 = 0;
     for i in 0..rounds {
         sum = mixed(sum, own_groups(recorder, i));
     }
-    write_number(sum);
+    write_number(rt, sum)
 }
 
 fn packed(m: Moment) -> u64 {
@@ -208,13 +221,13 @@ fn spread(i: u32) -> u32 {
     ((i as u64) * 2654435761 % 4294967296) as u32
 }
 
-fn moments(rounds: u32) {
+fn moments(rt: &impl Print, rounds: u32) -> io::Result<()> {
     let mut sum: u64 = 0;
     for i in 0..rounds {
         let number = moment_number(calendar::moment_of(spread(i)));
         sum = mixed(mixed(sum, number), number / 4294967296);
     }
-    write_number(sum);
+    write_number(rt, sum)
 }
 
 fn set_number(answer: SetAnswer) -> u64 {
@@ -248,7 +261,7 @@ fn bytes_sum(sum: u64, bytes: &[u8]) -> u64 {
 }
 
 // A period is closed by a clock set, and its record put. The check sum is of the refusals, and then of the whole buffer.
-fn closes(recorder: Recorder, rounds: u32, buffer: &mut [u8]) {
+fn closes(rt: &impl Print, recorder: Recorder, rounds: u32, buffer: &mut [u8]) -> io::Result<()> {
     let mut now = recorder;
     let mut sum: u64 = 0;
     for i in 0..rounds {
@@ -257,7 +270,7 @@ fn closes(recorder: Recorder, rounds: u32, buffer: &mut [u8]) {
         let answer = set.answer;
         sum = mixed(sum, set_number(answer));
     }
-    write_number(bytes_sum(sum, buffer));
+    write_number(rt, bytes_sum(sum, buffer))
 }
 
 fn record_number(answer: RecordAnswer) -> u64 {
@@ -277,12 +290,12 @@ fn record(recorder: Recorder, i: u32, buffer: &[u8]) -> u64 {
     mixed(record_number(answer), wide(bytes[k]))
 }
 
-fn records(recorder: Recorder, rounds: u32, buffer: &[u8]) {
+fn records(rt: &impl Print, recorder: Recorder, rounds: u32, buffer: &[u8]) -> io::Result<()> {
     let mut sum: u64 = 0;
     for i in 0..rounds {
         sum = mixed(sum, record(recorder, i, buffer));
     }
-    write_number(sum);
+    write_number(rt, sum)
 }
 
 // Two's complement; of 64 bits the lower half is mixed.
@@ -304,49 +317,50 @@ fn data_set(sum: u64, line: &[u8]) -> u64 {
 }
 
 // One data set, with another digit before the point each time. It comes with the input: of a line that it knows the compiler works out the number itself.
-fn data_sets(line: [u8; 25], rounds: u32) {
+fn data_sets(rt: &impl Print, line: [u8; 25], rounds: u32) -> io::Result<()> {
     let mut next = line;
     let mut sum: u64 = 0;
     for i in 0..rounds {
         next[15] = b'0' + (i % 10) as u8;
         sum = data_set(sum, &next);
     }
-    write_number(sum);
+    write_number(rt, sum)
 }
 
 pub(crate) fn run(
+    rt: &impl Print,
     letter: u8,
     image: [u8; IMAGE_LENGTH],
     bits: [u16; 1000],
     line: [u8; 25],
     rounds: u32,
-) {
+) -> io::Result<()> {
     let mut buffer = [0u8; 65536];
     let recorder = started(image, &buffer);
     match letter {
-        b's' => samples(recorder, bits, rounds, &mut buffer),
-        b'o' => singles(recorder, bits, rounds, &mut buffer),
-        b'i' => images(image, rounds),
+        b's' => samples(rt, recorder, bits, rounds, &mut buffer),
+        b'o' => singles(rt, recorder, bits, rounds, &mut buffer),
+        b'i' => images(rt, image, rounds),
         b'r' => {
             let run = recorder.samples(&bits, &mut buffer);
             let reset = run.recorder;
-            reads(reset.reset_bills(), rounds)
+            reads(rt, reset.reset_bills(), rounds)
         }
         b'm' => {
             let run = recorder.samples(&bits, &mut buffer);
             let reset = run.recorder;
-            own_reads(reset.reset_bills(), rounds)
+            own_reads(rt, reset.reset_bills(), rounds)
         }
-        b'c' => moments(rounds),
+        b'c' => moments(rt, rounds),
         b'p' => {
             let full = filled(recorder, bits, &mut buffer);
-            closes(full, rounds, &mut buffer)
+            closes(rt, full, rounds, &mut buffer)
         }
         b'l' => {
             let full = filled(recorder, bits, &mut buffer);
-            records(full, rounds, &buffer)
+            records(rt, full, rounds, &buffer)
         }
-        b'd' => data_sets(line, rounds),
-        _ => {}
+        b'd' => data_sets(rt, line, rounds),
+        _ => Ok(()),
     }
 }

@@ -1,11 +1,16 @@
 // `bench JOBS ROUNDS`: work to be measured. Standard input has an image, 1,000 samples of two bytes each, the lower first, and a data set of 25 bytes. Each letter of JOBS is a job,
 // done ROUNDS times on a recorder of its own, and its results are printed; those of bench/peer.c, the same jobs in C, are the same.
 #![tactic(auto)]
+
 mod jobs;
 mod report;
 
+ghost use Rattle.std.specs.Prelude.{◌≤◌, length};
+
 use image::IMAGE_LENGTH;
-use libc::{STDIN_FILENO, STDOUT_FILENO};
+use std::env::{Env, FillError};
+use std::io;
+use std::io::Read;
 
 // The samples of these bytes.
 fn samples_of(bytes: [u8; 2000]) -> [u16; 1000] {
@@ -33,30 +38,64 @@ fn number_of(digits: &[u8]) -> u32 {
     number
 }
 
-fn rounds() -> u32 {
-    let mut word = io::buffer();
-    let n = os::arg(2, &mut word);
+fn rounds(rt: &impl Env) -> u32 {
+    let mut word = [0u8; 4096];
+    let n = rt.arg(2, &mut word).unwrap_or(0);
     number_of(&word[..n])
 }
 
-fn run(letters: &[u8], image: [u8; IMAGE_LENGTH], bits: [u16; 1000], line: [u8; 25], rounds: u32) {
+fn run(
+    rt: &impl Print,
+    letters: &[u8],
+    image: [u8; IMAGE_LENGTH],
+    bits: [u16; 1000],
+    line: [u8; 25],
+    rounds: u32,
+) -> io::Result<()> {
     for i in 0..letters.len() {
-        jobs::run(letters[i], image, bits, line, rounds);
+        jobs::run(rt, letters[i], image, bits, line, rounds)?;
     }
+    Ok(())
 }
 
-fn main() {
-    if os::arg_count() != 3 {
-        io::write_all(STDOUT_FILENO, b"usage: bench JOBS ROUNDS < DATA\n");
-        return;
+// Reads until the buffer is full, the input ends or a read fails, and hands back how many bytes it put at the start.
+fn read_full(mut input: impl Read + Drop, buffer: &mut [u8]) -> usize
+    ensures { result ≤ length buffer.new }
+{
+    let mut done = 0;
+    while done < buffer.len() {
+        let n = input.read(&mut buffer[done..]).unwrap_or(0);
+        if n == 0 {
+            return done;
+        }
+        done += n;
+    }
+    done
+}
+
+// Whether the program was given an argument of this number.
+fn is_given(rt: &impl Env, number: usize) -> bool {
+    !matches!(rt.arg(number, &mut []), Err(FillError::NotPresent))
+}
+
+fn main(rt: HostRuntime) -> io::Result<()> {
+    if !is_given(&rt, 2) || is_given(&rt, 3) {
+        return rt.write_all(b"usage: bench JOBS ROUNDS < DATA\n");
     }
     let mut image = [0u8; IMAGE_LENGTH];
     let mut bytes = [0u8; 2000];
-    io::read_full(STDIN_FILENO, &mut image);
+    read_full(rt.reader(), &mut image);
     let mut line = [0u8; 25];
-    io::read_full(STDIN_FILENO, &mut bytes);
-    io::read_full(STDIN_FILENO, &mut line);
-    let mut letters = io::buffer();
-    let n = os::arg(1, &mut letters);
-    run(&letters[..n], image, samples_of(bytes), line, rounds());
+    read_full(rt.reader(), &mut bytes);
+    read_full(rt.reader(), &mut line);
+    let mut letters = [0u8; 4096];
+    let n = rt.arg(1, &mut letters).unwrap_or(0);
+    run(
+        &rt,
+        &letters[..n],
+        image,
+        samples_of(bytes),
+        line,
+        rounds(&rt),
+    )
 }

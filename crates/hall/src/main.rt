@@ -2,6 +2,7 @@
 // The lines are those of crate lines, the calls those of crates recorder, registers, makers and display, the answers those of crate answers. They are written in
 // large pieces, and all of them before more input is waited for.
 #![tactic(auto)]
+
 mod calls;
 mod output;
 
@@ -9,7 +10,10 @@ ghost use Rattle.std.specs.Prelude.{◌≤◌, length};
 
 use calls::{Desk, STORE_LENGTH};
 use image::IMAGE_LENGTH;
-use libc::{STDIN_FILENO, STDOUT_FILENO};
+use std::env::{Env, FillError};
+use std::io::Read;
+use std::rt::Files;
+use std::{fs, io, str};
 
 // The recorder with its output, how many lines were read, and how much of the next one has been.
 #[derive(Clone, Copy)]
@@ -58,6 +62,7 @@ fn lent_of(desk: Desk, store: &[u8]) -> usize
 }
 
 fn answer_line(
+    rt: &impl Print,
     desk: Desk,
     image: &[u8],
     line: &[u8],
@@ -65,12 +70,20 @@ fn answer_line(
     out: &mut [u8],
     number: u64,
     length: usize,
-) -> Desk {
+) -> io::Result<Desk> {
     if length <= line.len() {
         let n = lent_of(desk, store);
-        return calls::answer(desk, image, &mut store[..n], out, number, &line[..length]);
+        return calls::answer(
+            rt,
+            desk,
+            image,
+            &mut store[..n],
+            out,
+            number,
+            &line[..length],
+        );
     }
-    desk
+    Ok(desk)
 }
 
 // The count stops at the largest number.
@@ -80,13 +93,14 @@ fn one_more(lines: u64) -> u64 {
 
 // Answers each line that ends in these bytes, and keeps what is left of the last.
 fn take_bytes(
+    rt: &impl Print,
     work: Work,
     image: &[u8],
     line: &mut [u8],
     store: &mut [u8],
     out: &mut [u8],
     bytes: &[u8],
-) -> Work {
+) -> io::Result<Work> {
     let mut desk = work.desk;
     let mut lines = work.lines;
     let mut kept = work.length;
@@ -95,41 +109,49 @@ fn take_bytes(
         let end = line_end(bytes, i);
         kept = keep(line, kept, &bytes[i..end]);
         if bytes.len() <= end {
-            return Work {
+            return Ok(Work {
                 desk,
                 lines,
                 length: kept,
-            };
+            });
         }
         i = end + 1;
         lines = one_more(lines);
-        desk = answer_line(desk, image, line, store, out, lines, kept);
+        desk = answer_line(rt, desk, image, line, store, out, lines, kept)?;
         kept = 0;
     }
-    Work {
+    Ok(Work {
         desk,
         lines,
         length: kept,
-    }
+    })
 }
 
 // Writes the answers, before more input is waited for.
-fn flush(work: Work, out: &[u8]) -> Work {
+fn flush(rt: &impl Print, work: Work, out: &[u8]) -> io::Result<Work> {
     let mut desk = work.desk;
-    output::flush(out, desk.at);
+    output::flush(rt, out, desk.at)?;
     desk.at = 0;
-    Work {
+    Ok(Work {
         desk,
         lines: work.lines,
         length: work.length,
-    }
+    })
 }
 
 // A last line may have no end.
-fn last_line(work: Work, image: &[u8], line: &[u8], store: &mut [u8], out: &mut [u8]) {
+fn last_line(
+    rt: &impl Print,
+    work: Work,
+    image: &[u8],
+    line: &[u8],
+    store: &mut [u8],
+    out: &mut [u8],
+) -> io::Result<()> {
     let length = work.length;
     if 0 < length {
         let desk = answer_line(
+            rt,
             work.desk,
             image,
             line,
@@ -137,56 +159,86 @@ fn last_line(work: Work, image: &[u8], line: &[u8], store: &mut [u8], out: &mut 
             out,
             one_more(work.lines),
             length,
-        );
-        output::flush(out, desk.at);
+        )?;
+        return output::flush(rt, out, desk.at);
     }
+    Ok(())
 }
 
-// A proved loop has to end, and nothing says that the input does. So it counts its turns down, from a number that no run uses up.
-fn run(image: &[u8]) {
+// A read that fails ends the input. A proved loop has to end, and nothing says that the input does: so it has a number of turns that no run uses up.
+fn run(rt: &(impl Input + Print), image: &[u8]) -> io::Result<()> {
+    let mut input = rt.reader();
     let mut line = [0u8; 257];
     let mut store = [0u8; STORE_LENGTH];
-    let mut out = io::large_buffer();
+    let mut out = [0u8; 65536];
     let desk = calls::first_desk();
     let mut work = Work {
         desk,
         lines: 0,
         length: 0,
     };
-    let mut turns = u64::MAX;
-    while turns > 0 {
-        turns -= 1;
-        let mut buffer = io::large_buffer();
-        let got = libc::read(STDIN_FILENO, &mut buffer);
-        if got <= 0 {
-            last_line(work, image, &line, &mut store, &mut out);
-            return;
+    for _ in 0..u64::MAX {
+        let mut buffer = [0u8; 65536];
+        let n = input.read(&mut buffer).unwrap_or(0);
+        if n == 0 {
+            break;
         }
-        let n = io::count(got, &buffer);
-        work = take_bytes(work, image, &mut line, &mut store, &mut out, &buffer[..n]);
-        work = flush(work, &out);
+        work = take_bytes(
+            rt,
+            work,
+            image,
+            &mut line,
+            &mut store,
+            &mut out,
+            &buffer[..n],
+        )?;
+        work = flush(rt, work, &out)?;
     }
+    last_line(rt, work, image, &line, &mut store, &mut out)
 }
 
-// One byte more than an image has is read, so that a longer file is told from an image.
-fn with_image(path: &[u8]) {
-    let file = os::open_read(path);
-    if file < 0 {
-        io::write_all(STDOUT_FILENO, b"error: the image cannot be read\n");
-        return;
+// Reads until the buffer is full, the input ends or a read fails, and hands back how many bytes it put at the start.
+fn read_full(mut input: impl Read + Drop, buffer: &mut [u8]) -> usize
+    ensures { result ≤ length buffer.new }
+{
+    let mut done = 0;
+    while done < buffer.len() {
+        let n = input.read(&mut buffer[done..]).unwrap_or(0);
+        if n == 0 {
+            return done;
+        }
+        done += n;
     }
+    done
+}
+
+fn cannot_be_read(rt: &impl Print) -> io::Result<()> {
+    rt.write_all(b"error: the image cannot be read\n")
+}
+
+// One byte more than an image has is read, so that a longer file is told from an image. A path that is not UTF-8 names no file here.
+fn with_image(rt: &(impl Files + Input + Print), path: &[u8]) -> io::Result<()> {
+    let Ok(name) = str::from_utf8(path) else {
+        return cannot_be_read(rt);
+    };
+    let Ok(file) = fs::open(rt, name) else {
+        return cannot_be_read(rt);
+    };
     let mut image = [0u8; IMAGE_LENGTH + 1];
-    let n = io::read_full(file, &mut image);
-    libc::close(file);
-    run(&image[..n]);
+    let n = read_full(file, &mut image);
+    run(rt, &image[..n])
 }
 
-fn main() {
-    if os::arg_count() != 2 {
-        io::write_all(STDOUT_FILENO, b"usage: hall IMAGE\n");
-        return;
+// Whether the program was given an argument of this number.
+fn is_given(rt: &impl Env, number: usize) -> bool {
+    !matches!(rt.arg(number, &mut []), Err(FillError::NotPresent))
+}
+
+fn main(rt: HostRuntime) -> io::Result<()> {
+    if !is_given(&rt, 1) || is_given(&rt, 2) {
+        return rt.write_all(b"usage: hall IMAGE\n");
     }
-    let mut path = io::buffer();
-    let n = os::arg(1, &mut path);
-    with_image(&path[..n]);
+    let mut path = [0u8; 4096];
+    let n = rt.arg(1, &mut path).unwrap_or(0);
+    with_image(&rt, &path[..n])
 }

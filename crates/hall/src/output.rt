@@ -1,36 +1,42 @@
 // Output in large pieces: texts are put into a lent buffer, of which `at` bytes are filled, and written when it is full. Each function hands back how many are
 // filled then.
 use answers::Text;
-use libc::STDOUT_FILENO;
+use std::io;
 
 // Writes what has been filled.
-pub(crate) fn flush(out: &[u8], at: usize) {
+pub(crate) fn flush(rt: &impl Print, out: &[u8], at: usize) -> io::Result<()> {
     if at <= out.len() {
-        io::write_all(STDOUT_FILENO, &out[..at]);
+        return rt.write_all(&out[..at]);
     }
+    Ok(())
 }
 
-fn put_byte(out: &mut [u8], at: usize, byte: u8) -> usize {
+fn put_byte(rt: &impl Print, out: &mut [u8], at: usize, byte: u8) -> io::Result<usize> {
     if at < out.len() {
         out[at] = byte;
-        return at + 1;
+        return Ok(at + 1);
     }
-    io::write_all(STDOUT_FILENO, out);
+    rt.write_all(out)?;
     if 0 < out.len() {
         out[0] = byte;
-        return 1;
+        return Ok(1);
     }
-    0
+    Ok(0)
 }
 
-pub(crate) fn put_text(out: &mut [u8], at: usize, text: Text) -> usize {
+pub(crate) fn put_text(
+    rt: &impl Print,
+    out: &mut [u8],
+    at: usize,
+    text: Text,
+) -> io::Result<usize> {
     let letters = text.bytes;
     let mut next = at;
     for i in 0..256 {
         if text.length <= i {
-            return next;
+            return Ok(next);
         }
-        next = put_byte(out, next, letters[i]);
+        next = put_byte(rt, out, next, letters[i])?;
     }
-    next
+    Ok(next)
 }

@@ -1,14 +1,33 @@
 // The image tester: it reads an image from standard input and prints one line, `ok` or `refused N at OFFSET`. One byte more than an image has is read, so
 // that a longer input is told from an image.
 #![tactic(auto)]
-use image::IMAGE_LENGTH;
-use libc::{STDIN_FILENO, STDOUT_FILENO};
 
-fn main() {
+ghost use Rattle.std.specs.Prelude.{◌≤◌, length};
+
+use image::IMAGE_LENGTH;
+use std::io;
+use std::io::Read;
+
+// Reads until the buffer is full, the input ends or a read fails, and hands back how many bytes it put at the start.
+fn read_full(mut input: impl Read + Drop, buffer: &mut [u8]) -> usize
+    ensures { result ≤ length buffer.new }
+{
+    let mut done = 0;
+    while done < buffer.len() {
+        let n = input.read(&mut buffer[done..]).unwrap_or(0);
+        if n == 0 {
+            return done;
+        }
+        done += n;
+    }
+    done
+}
+
+fn main(rt: HostRuntime) -> io::Result<()> {
     let mut input = [0u8; IMAGE_LENGTH + 1];
-    let n = io::read_full(STDIN_FILENO, &mut input);
+    let n = read_full(rt.reader(), &mut input);
     let line = answers::check_line(&input[..n]);
     let bytes = line.bytes;
     let length = line.length;
-    io::write_all(STDOUT_FILENO, &bytes[..length]);
+    rt.write_all(&bytes[..length])
 }

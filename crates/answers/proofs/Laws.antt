@@ -1,4 +1,5 @@
 -- Laws of texts (specs/Texts.antt) and of numbers in letters (specs/Numbers.antt): turns of the loops.
+use Rattle.std.specs.Prelude.{if◌then◌else◌}
 use mathlib.Core.Path.{◌≡◌, refl}
 use mathlib.Core.Bool.{true, false, true≢false}
 use mathlib.Core.List.{List, [], ◌∷◌, ◌++◌, append-nil}
@@ -15,7 +16,6 @@ use lib.Seq.{drop-cons, take_all}
 use mir.Syntax.{w64}
 use mir.Val.{of_z}
 use Rattle.laws.specs.Answers.{given}
-use Rattle.laws.specs.If.{if◌then◌else◌}
 use Rattle.laws.specs.Letters.{letters}
 use Rattle.answers.specs.declared.Text.{Text}
 use Rattle.answers.specs.Texts.{with_byte, with_bytes, row_at}

@@ -1,6 +1,5 @@
 -- Texts of at most 256 letters, as the code has them: letter after letter, with zeros behind them.
-use Rattle.std.specs.Prelude.{List, [], ◌∷◌, ℕ, ◌+◌, ◌-◌, ltb, eqb, replicate, set}
-use Rattle.laws.specs.If.{if◌then◌else◌}
+use Rattle.std.specs.Prelude.{List, [], ◌∷◌, ℕ, ◌+◌, ◌-◌, ltb, eqb, replicate, set, if◌then◌else◌}
 use Rattle.answers.specs.declared.Text.{Text}
 
 -- no letter

@@ -1,6 +1,5 @@
 -- "Dates follow the Gregorian calendar": leap years, month lengths, days that exist, day numbers, weekdays.
-use Rattle.std.specs.Prelude.{Bool, not, ◌&&◌, ◌||◌, List, [], ◌∷◌, ℕ, ◌+◌, ◌-◌, ◌%◌, leb, eqb, get_or}
-use Rattle.laws.specs.If.{if◌then◌else◌}
+use Rattle.std.specs.Prelude.{Bool, not, ◌&&◌, ◌||◌, List, [], ◌∷◌, ℕ, ◌+◌, ◌-◌, ◌%◌, leb, eqb, get_or, if◌then◌else◌}
 use Rattle.laws.specs.Total.{total}
 
 -- each fourth year is a leap year, of the full hundreds only each fourth

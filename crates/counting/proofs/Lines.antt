@@ -1,10 +1,10 @@
 -- What a sample does to one line: the filter, then the impulse that it may bring.
+use Rattle.std.specs.Prelude.{if◌then◌else◌}
 use mathlib.Core.Path.{◌≡◌, ◌∙◌}
 use mathlib.Core.Bool.{Bool, not, ◌&&◌}
 use mathlib.Core.List.{List}
 use Prim.Native.Nat.{ℕ, ◌<◌}
 use borrow.Author.Tests.{lt-ltb}
-use Rattle.laws.specs.If.{if◌then◌else◌}
 use Rattle.laws.proofs.Tests.{by_test}
 use Rattle.laws.specs.Masks.{bit_at}
 use Rattle.laws.proofs.Masks.{bit_at_lem}

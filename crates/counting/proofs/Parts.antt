@@ -1,4 +1,5 @@
 -- The laws of specs/Laws.antt: what a sample comes to, by its parts, runs that end and runs that go on, and the bills apart from their open amounts.
+use Rattle.std.specs.Prelude.{if◌then◌else◌}
 use mathlib.Core.Path.{◌≡◌, refl, sym, ◌∙◌}
 use mathlib.Core.Bool.{Bool, true, false, ◌&&◌}
 use mathlib.Core.List.{List}
@@ -7,7 +8,6 @@ use native.Mathlib.Omega.{arith}
 use lib.Dec.{ltb}
 use lib.ListN.{length}
 use borrow.Author.Tests.{lt-ltb, ltb-false}
-use Rattle.laws.specs.If.{if◌then◌else◌}
 use Rattle.laws.proofs.If.{if_same}
 use Rattle.laws.proofs.Tests.{by_test}
 use Rattle.laws.proofs.Any.{any_cong, any_not}

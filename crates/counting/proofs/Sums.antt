@@ -1,4 +1,5 @@
 -- The sums of the inputs' units, made in place from the inputs of a mask.
+use Rattle.std.specs.Prelude.{if◌then◌else◌}
 use mathlib.Core.Path.{◌≡◌, refl, sym, ap, ◌∙◌}
 use mathlib.Core.List.{List, [], ◌∷◌}
 use Prim.Native.Nat.{ℕ, ◌-◌, ◌^◌, ◌<◌, ◌≤◌}
@@ -12,7 +13,6 @@ use lib.Seq.{get_or-set_same, get_or-set_other}
 use mir.Syntax.{w32}
 use mir.Val.{Fits}
 use borrow.Author.Tests.{ltb-true, ltb-false}
-use Rattle.laws.specs.If.{if◌then◌else◌}
 use Rattle.laws.proofs.If.{if_same, if_cases}
 use Rattle.laws.specs.Masks.{bit_at}
 use Rattle.laws.specs.Tables.{table}

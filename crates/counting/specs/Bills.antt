@@ -1,7 +1,6 @@
 -- "The units go to level 0 of the input, each sum that names it, and each bill register on such a sum that has no rule or whose rule is in force at the clock's present
 -- second." And: "6 FULL: the sample would take a bill register past 999,999,999."
-use Rattle.std.specs.Prelude.{Bool, false, ◌&&◌, ◌||◌, List, ℕ, ◌+◌, ltb, eqb, get_or}
-use Rattle.laws.specs.If.{if◌then◌else◌}
+use Rattle.std.specs.Prelude.{Bool, false, ◌&&◌, ◌||◌, List, ℕ, ◌+◌, ltb, eqb, get_or, if◌then◌else◌}
 use Rattle.laws.specs.Any.{any}
 use Rattle.laws.specs.Total.{total}
 use Rattle.laws.specs.Masks.{bit_at}

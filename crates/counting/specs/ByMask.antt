@@ -1,6 +1,5 @@
 -- What the code works out by masks and in place: only lines whose runs end are judged, only those that are active are advanced, and only the registers that units go to are booked.
-use Rattle.std.specs.Prelude.{Bool, true, ◌&&◌, List, ℕ, ◌+◌, ◌≤◌, ltb, eqb, get_or}
-use Rattle.laws.specs.If.{if◌then◌else◌}
+use Rattle.std.specs.Prelude.{Bool, true, ◌&&◌, List, ℕ, ◌+◌, ◌≤◌, ltb, eqb, get_or, if◌then◌else◌}
 use Rattle.laws.specs.Any.{any}
 use Rattle.laws.specs.Masks.{mask_of, bit_at}
 use Rattle.laws.specs.Tables.{table}

@@ -1,7 +1,6 @@
 -- "S1a is active closed, S1r active open. Each line keeps its run of active samples from one sample to the next, counted to 256 and held there. The first inactive
 -- sample after a run of at least 1 ends it: shortest to longest inclusive is an accepted impulse, any other run a rejected one (count held at 65,535)."
-use Rattle.std.specs.Prelude.{Bool, not, ◌&&◌, ◌||◌, List, ℕ, ◌+◌, ltb, leb, eqb, get_or}
-use Rattle.laws.specs.If.{if◌then◌else◌}
+use Rattle.std.specs.Prelude.{Bool, not, ◌&&◌, ◌||◌, List, ℕ, ◌+◌, ltb, leb, eqb, get_or, if◌then◌else◌}
 use Rattle.laws.specs.Masks.{mask_of, bit_at}
 use Rattle.laws.specs.Tables.{table}
 use Rattle.settings.specs.Rules.{zero_input}

@@ -1,6 +1,5 @@
 -- "Level 0 and level 1 are units of the period, level 2 the signed sum of coefficient times level 1, level 9 the chosen values of the last closed period."
-use Rattle.std.specs.Prelude.{List, ℕ, ◌+◌, ◌*◌, ltb, eqb, ℤ, pos, ◌*ℤ◌, get_or}
-use Rattle.laws.specs.If.{if◌then◌else◌}
+use Rattle.std.specs.Prelude.{List, ℕ, ◌+◌, ◌*◌, ltb, eqb, ℤ, pos, ◌*ℤ◌, get_or, if◌then◌else◌}
 use Rattle.laws.specs.Tables.{table}
 use Rattle.laws.specs.SignedTotal.{totalℤ}
 use Rattle.settings.specs.Rules.{zero_slot}

@@ -1,6 +1,5 @@
 -- "An accepted impulse adds the numerator to the input's remainder; whole denominators leave it as units."
-use Rattle.std.specs.Prelude.{List, ℕ, ◌+◌, ◌/◌, ◌%◌, ltb, eqb}
-use Rattle.laws.specs.If.{if◌then◌else◌}
+use Rattle.std.specs.Prelude.{List, ℕ, ◌+◌, ◌/◌, ◌%◌, ltb, eqb, if◌then◌else◌}
 use Rattle.laws.specs.Masks.{bit_at}
 use Rattle.laws.specs.Tables.{table}
 use Rattle.settings.specs.declared.Input.{Input}

@@ -1,6 +1,5 @@
 // Bills: what a sample books to the bill registers.
-ghost use Rattle.std.specs.Prelude.{◌≡◌, ◌≤◌, length};
-ghost use Rattle.laws.specs.If.{if◌then◌else◌};
+ghost use Rattle.std.specs.Prelude.{◌≡◌, ◌≤◌, length, if◌then◌else◌};
 ghost use Rattle.counting.specs.Bills.{sum_of, unit_at, sums_of, register_units, fills_up};
 ghost use Rattle.counting.specs.ByMask.{masked_units, Below, added_units, fed_registers, some_full, amounts_of, with_amounts};
 

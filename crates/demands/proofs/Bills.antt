@@ -1,11 +1,11 @@
 -- Demand 3 of the account alone: what the journal's amounts are, by induction over the journal.
+use Rattle.std.specs.Prelude.{if◌then◌else◌}
 use mathlib.Core.Path.{◌≡◌, refl, sym, ap, ap₂, ◌∙◌}
 use mathlib.Core.Bool.{Bool, true, false, ◌&&◌}
 use mathlib.Core.List.{List, [], ◌∷◌}
 use Prim.Native.Nat.{ℕ, ◌+◌, ◌*◌, ◌%◌, ◌<◌}
 use native.Mathlib.Nat.{zero-mul, zero-mod, zero-div, mod-lt}
 use native.Mathlib.Omega.{arith}
-use Rattle.laws.specs.If.{if◌then◌else◌}
 use Rattle.laws.specs.Each.{Each}
 use Rattle.laws.specs.Total.{total}
 use Rattle.laws.proofs.Total.{total_cong}

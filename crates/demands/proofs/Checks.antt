@@ -1,4 +1,5 @@
 -- That the account's definitions say what document 01 says: stretches may be counted at either end, and the scale is exact. And the third demand in one.
+use Rattle.std.specs.Prelude.{if◌then◌else◌}
 use mathlib.Core.Path.{◌≡◌, refl, sym, ap, ◌∙◌}
 use mathlib.Core.Bool.{Bool, true, false, not, ◌&&◌, and-false}
 use mathlib.Core.List.{List, [], ◌∷◌, ◌++◌}
@@ -8,7 +9,6 @@ use native.Mathlib.Nat.{mul_assoc, mul_comm, mul-one, mul-div_cancel_left, eq-or
 use native.Mathlib.Omega.{arith}
 use lib.Dec.{ltb, leb}
 use borrow.Author.Tests.{leb-true, leb-false, lt-leb}
-use Rattle.laws.specs.If.{if◌then◌else◌}
 use Rattle.laws.proofs.Tests.{by_test}
 use Rattle.laws.specs.Masks.{bit, bit_at}
 use Rattle.settings.specs.declared.Config.{Config}

@@ -1,4 +1,5 @@
 -- CR 7 over histories: what a register request gives after a history is what the account shows, so the display shows that.
+use Rattle.std.specs.Prelude.{if◌then◌else◌}
 use mathlib.Core.Path.{◌≡◌, sym, ap, ◌∙◌}
 use mathlib.Core.Bool.{Bool, true}
 use mathlib.Core.List.{List}
@@ -6,7 +7,6 @@ use Prim.Native.Nat.{ℕ, ◌<◌}
 use lib.Dec.{leb, ltb}
 use lib.ListN.{length, replicate}
 use Rattle.laws.specs.Answers.{Answer, given, refused}
-use Rattle.laws.specs.If.{if◌then◌else◌}
 use Rattle.settings.specs.declared.Config.{Config}
 use Rattle.recorder.specs.History.{Call}
 use Rattle.recorder.specs.declared.Recorder.{Recorder}

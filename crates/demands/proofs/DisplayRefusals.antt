@@ -1,4 +1,5 @@
 -- Demand 1 of the display: 13 first, then in string order the first bad specification, 21, or the first number whose argument bytes name no readable field, 22.
+use Rattle.std.specs.Prelude.{if◌then◌else◌}
 use mathlib.Core.Path.{◌≡◌, refl, sym, ap, ◌∙◌}
 use mathlib.Core.Bool.{Bool, true, true≢false}
 use mathlib.Core.List.{List, [], ◌∷◌, ◌++◌, append_assoc}
@@ -10,7 +11,6 @@ use lib.Dec.{ltb}
 use lib.ListN.{length, get_or, drop, replicate}
 use lib.Seq.{drop-drop}
 use Rattle.laws.specs.Answers.{Answer, given, refused}
-use Rattle.laws.specs.If.{if◌then◌else◌}
 use Rattle.laws.proofs.Answers.{by_answer}
 use Rattle.laws.proofs.Tests.{by_test}
 use Rattle.calendar.specs.Moments.{moment_of}

@@ -1,11 +1,11 @@
 -- What a sample does to the recorder's lines and bills, place by place, from its definitions.
+use Rattle.std.specs.Prelude.{if◌then◌else◌}
 use mathlib.Core.Path.{◌≡◌, ap, ◌∙◌}
 use mathlib.Core.Bool.{Bool, true, false}
 use mathlib.Core.List.{List}
 use Prim.Native.Nat.{ℕ, ◌+◌, ◌<◌}
 use lib.ListN.{get_or}
 use borrow.Author.Tests.{lt-ltb, ltb-true}
-use Rattle.laws.specs.If.{if◌then◌else◌}
 use Rattle.laws.proofs.If.{if_same}
 use Rattle.laws.proofs.Any.{any_not}
 use Rattle.laws.proofs.Total.{total_cong}

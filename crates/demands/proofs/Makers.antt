@@ -1,4 +1,5 @@
 -- CR 6 over histories: a maker's reply is worked out from configuration, list and view.
+use Rattle.std.specs.Prelude.{if◌then◌else◌}
 use mathlib.Core.Path.{◌≡◌, refl, sym, ap, ◌∙◌}
 use mathlib.Core.Bool.{true, true≢false, not}
 use mathlib.Core.List.{List, ◌++◌}
@@ -7,7 +8,6 @@ use borrow.Author.Tests.{eqb-true, leb-false}
 use lib.Dec.{leb, ltb, eqb}
 use lib.ListN.{length, drop}
 use Rattle.laws.specs.Answers.{Answer, given, refused}
-use Rattle.laws.specs.If.{if◌then◌else◌}
 use Rattle.laws.specs.Masks.{bit_at}
 use Rattle.laws.proofs.If.{if_cases}
 use Rattle.laws.proofs.Tests.{by_test}

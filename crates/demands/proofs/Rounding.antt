@@ -1,11 +1,11 @@
 -- One input over a list of samples (newest first): the remainder it ends with, the units it pays while `on`, and how far these may be from the exact energy.
+use Rattle.std.specs.Prelude.{if◌then◌else◌}
 use mathlib.Core.Path.{◌≡◌, refl, ap, ◌∙◌}
 use mathlib.Core.Bool.{Bool, true, false, not, ◌&&◌}
 use mathlib.Core.List.{List, [], ◌∷◌}
 use Prim.Native.Nat.{ℕ, zero, suc, pred, ◌+◌, ◌*◌, ◌/◌, ◌%◌, ◌≤◌, ◌<◌}
 use native.Mathlib.Nat.{add-mul, add-zero, one-mul, zero-mul, mul-suc, mul_comm, mod-lt, div-add-mod'}
 use native.Mathlib.Omega.{arith}
-use Rattle.laws.specs.If.{if◌then◌else◌}
 use Rattle.laws.specs.Masks.{bit}
 use Rattle.demands.specs.Account.{Sample, impulses_of}
 use Rattle.demands.specs.Energy.{running, stretches_of, product_of}

@@ -1,4 +1,5 @@
 -- What the registers show: classes, fleet and bytes of the state that the account spells out.
+use Rattle.std.specs.Prelude.{if◌then◌else◌}
 use mathlib.Core.Path.{◌≡◌, refl, sym, ap, ◌∙◌}
 use mathlib.Core.Bool.{Bool, true, false, true≢false, not, ◌&&◌, ◌||◌, cond}
 use mathlib.Core.List.{List, [], ◌∷◌, ◌++◌}
@@ -9,7 +10,6 @@ use borrow.Author.Tests.{eqb-true, leb-false, not-true}
 use lib.Dec.{ltb, leb, eqb}
 use lib.IntN.{pos}
 use lib.ListN.{get_or, drop}
-use Rattle.laws.specs.If.{if◌then◌else◌}
 use Rattle.laws.proofs.Tests.{by_test, and_left, and_right, cond_both}
 use Rattle.laws.specs.Answers.{Answer, given, refused}
 use Rattle.laws.specs.Counts.{count_of}

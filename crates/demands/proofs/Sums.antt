@@ -1,11 +1,11 @@
 -- Laws of sums over the inputs that a mask names, and of fractions over such inputs. `named` says which of the places below n count.
+use Rattle.std.specs.Prelude.{if◌then◌else◌}
 use mathlib.Core.Path.{◌≡◌, refl, sym, ap, ◌∙◌}
 use mathlib.Core.Bool.{Bool, true, false}
 use mathlib.Core.Logic.{⊎_elim}
 use Prim.Native.Nat.{ℕ, zero, suc, ◌+◌, ◌-◌, ◌*◌, ◌/◌, ◌<◌, ◌≤◌}
 use native.Mathlib.Nat.{add-mul, mul-add, mul_assoc, mul_comm, mul-one, one-mul, zero-mul, mul-zero, mul-pos, mul-le-mul_left, mul-le-mul_right, mul-div_cancel_left, eq-or-lt_of_le, le_of_suc-le-suc}
 use native.Mathlib.Omega.{arith}
-use Rattle.laws.specs.If.{if◌then◌else◌}
 use Rattle.laws.proofs.Tests.{by_test}
 use Rattle.laws.specs.Total.{total}
 use Rattle.laws.proofs.Total.{total_cong, total_zero, total_plus}

@@ -1,4 +1,5 @@
 -- One impulse more: what whole denominators leave of the numerators, and the units that leave them.
+use Rattle.std.specs.Prelude.{if◌then◌else◌}
 use mathlib.Core.Path.{◌≡◌, sym}
 use mathlib.Core.Bool.{Bool, true, false}
 use Prim.Native.Nat.{ℕ, ◌+◌, ◌-◌, ◌*◌, ◌/◌, ◌%◌, ◌<◌, ◌≤◌}
@@ -6,7 +7,6 @@ use native.Mathlib.Nat.{add-mul, one-mul, add-zero, div-zero, div-add-mod', mod-
 use native.Mathlib.Omega.{arith}
 use lib.Dec.{eqb}
 use borrow.Author.Tests.{eqb-true, eqb-false}
-use Rattle.laws.specs.If.{if◌then◌else◌}
 use Rattle.laws.proofs.Tests.{by_test}
 use Rattle.laws.specs.Masks.{bit}
 use Rattle.settings.specs.declared.Input.{Input}

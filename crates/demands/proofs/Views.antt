@@ -1,4 +1,5 @@
 -- What a maker is shown goes by the view alone: the account's runs, impulses, units, amounts, periods and readings, of what feeds the maker, are those of the entries that the maker sees.
+use Rattle.std.specs.Prelude.{if◌then◌else◌}
 use mathlib.Core.Path.{◌≡◌, refl, sym, ap, ◌∙◌}
 use mathlib.Core.Bool.{Bool, true, false, true≢false, not, ◌&&◌, ◌||◌, cond}
 use mathlib.Core.List.{List, [], ◌∷◌}
@@ -11,7 +12,6 @@ use lib.IntN.{ℤ, pos, negsuc, nat_abs, ◌*ℤ◌}
 use lib.ListN.{get_or}
 use Rattle.laws.specs.Any.{any}
 use Rattle.laws.specs.Counts.{count_of}
-use Rattle.laws.specs.If.{if◌then◌else◌}
 use Rattle.laws.specs.Masks.{bit_at}
 use Rattle.laws.specs.Tables.{table}
 use Rattle.laws.specs.SignedTotal.{totalℤ}

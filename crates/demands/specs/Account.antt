@@ -1,7 +1,6 @@
 -- What a history of calls says by itself, in the words of document 01. It is worked out from the configuration, the time of the fresh start and the calls alone, and so is which of them are
 -- accepted: no reply and no state of the recorder appears here. All lists are newest first: `call ∷ earlier` is the call after the earlier ones.
-use Rattle.std.specs.Prelude.{Bool, true, false, not, ◌&&◌, ◌||◌, List, [], ◌∷◌, ℕ, ◌+◌, ◌-◌, ◌*◌, ◌/◌, min, ltb, leb, eqb, ℤ, pos, get_or}
-use Rattle.laws.specs.If.{if◌then◌else◌}
+use Rattle.std.specs.Prelude.{Bool, true, false, not, ◌&&◌, ◌||◌, List, [], ◌∷◌, ℕ, ◌+◌, ◌-◌, ◌*◌, ◌/◌, min, ltb, leb, eqb, ℤ, pos, get_or, if◌then◌else◌}
 use Rattle.laws.specs.Answers.{Answer, given, refused, number_in}
 use Rattle.laws.specs.Any.{any}
 use Rattle.laws.specs.Masks.{bit}

@@ -1,7 +1,6 @@
 -- Demand 1: "Every image, sample, reading, time and register request ends with its result or with the numbered refusal that the rules name for it. A refusal changes nothing in the recorder and no byte
 -- of the buffer given for the result. No caller has to check anything first." That no function has a precondition is in Tightness.antt.
-use Rattle.std.specs.Prelude.{◌≡◌, Bool, true, false, List, [], ◌∷◌, ◌++◌, ◌⊎◌, ℕ, ◌+◌, ◌*◌, ◌<◌, ◌≤◌, eqb, ℤ, length, get_or, take, drop}
-use Rattle.laws.specs.If.{if◌then◌else◌}
+use Rattle.std.specs.Prelude.{◌≡◌, Bool, true, false, List, [], ◌∷◌, ◌++◌, ◌⊎◌, ℕ, ◌+◌, ◌*◌, ◌<◌, ◌≤◌, eqb, ℤ, length, get_or, take, drop, if◌then◌else◌}
 use Rattle.laws.specs.Answers.{Answer, given, refused, Reply, RunReply}
 use Rattle.laws.specs.Bytes.{le}
 use Rattle.laws.specs.Each.{Each}

@@ -1,8 +1,7 @@
 -- Demand 2: "Impulses, tariffs, period results, bills and register bytes are those of the POREG 2 description as document 01 makes it exact, over the Gregorian calendar. A configuration written and read
 -- back is the same configuration; an accepted image read and written is the same bytes. A serial value from a meter not awake always carries the invalid mark." Account.antt says what a history comes
 -- to, from the calls alone; here the recorder is compared with it.
-use Rattle.std.specs.Prelude.{◌≡◌, true, false, List, [], ◌∷◌, ◌++◌, ℕ, suc, ◌%◌, ◌≤◌, eqb, get_or, take, drop}
-use Rattle.laws.specs.If.{if◌then◌else◌}
+use Rattle.std.specs.Prelude.{◌≡◌, true, false, List, [], ◌∷◌, ◌++◌, ℕ, suc, ◌%◌, ◌≤◌, eqb, get_or, take, drop, if◌then◌else◌}
 use Rattle.laws.specs.Answers.{given, number_in}
 use Rattle.laws.specs.Masks.{bit_at}
 use Rattle.calendar.specs.Moments.{moment_of}

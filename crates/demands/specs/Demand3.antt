@@ -1,7 +1,6 @@
 -- The owner's third demand: "Take any sequence of samples, clock sets, readings and billing resets from a fresh start." Each type below is a theorem; Demand3 names
 -- them all, and proofs/Checks.antt has the proof. The account of a history (Account.antt) is worked out from the calls alone; `open_of` and `closed_of` are the recorder's.
-use Rattle.std.specs.Prelude.{◌≡◌, Bool, true, false, not, ◌&&◌, List, [], ◌∷◌, ◌++◌, ℕ, suc, ◌+◌, ◌*◌, ◌/◌, ◌<◌, ltb, get_or}
-use Rattle.laws.specs.If.{if◌then◌else◌}
+use Rattle.std.specs.Prelude.{◌≡◌, Bool, true, false, not, ◌&&◌, List, [], ◌∷◌, ◌++◌, ℕ, suc, ◌+◌, ◌*◌, ◌/◌, ◌<◌, ltb, get_or, if◌then◌else◌}
 use Rattle.laws.specs.Each.{Each}
 use Rattle.laws.specs.Total.{total}
 use Rattle.laws.specs.Masks.{bit, bit_at}

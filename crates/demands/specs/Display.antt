@@ -1,7 +1,6 @@
 -- CR 7 over histories: what the hall display shows after any calls is worked out from the account (Account.antt): the clock, and the registers' bytes as the account shows them (Shown.antt).
-use Rattle.std.specs.Prelude.{◌≡◌, List, ℕ}
+use Rattle.std.specs.Prelude.{◌≡◌, List, ℕ, if◌then◌else◌}
 use Rattle.laws.specs.Answers.{Answer, given, refused}
-use Rattle.laws.specs.If.{if◌then◌else◌}
 use Rattle.settings.specs.declared.Config.{Config}
 use Rattle.recorder.specs.History.{Call}
 use Rattle.recorder.specs.declared.Setup.{Setup}

@@ -1,7 +1,6 @@
 -- Stretches and exact energies, in the words of document 01. "Energies, amounts and the units they may differ by are compared as whole numbers, each multiplied by the product of the feeding inputs'
 -- denominators."
-use Rattle.std.specs.Prelude.{Bool, false, not, ◌&&◌, List, [], ◌∷◌, ℕ, zero, suc, ◌+◌, ◌*◌, ◌/◌}
-use Rattle.laws.specs.If.{if◌then◌else◌}
+use Rattle.std.specs.Prelude.{Bool, false, not, ◌&&◌, List, [], ◌∷◌, ℕ, zero, suc, ◌+◌, ◌*◌, ◌/◌, if◌then◌else◌}
 use Rattle.laws.specs.Masks.{bit, bit_at}
 use Rattle.settings.specs.declared.Config.{Config}
 use Rattle.counting.specs.Filter.{input_at}

@@ -1,11 +1,10 @@
 -- CR 6 over histories: "For two histories with the same configuration and lists, the same accepted calls on the clock and billing, and the same samples and readings for everything that feeds a maker's
 -- registers, all in the same order, that maker's answers are the same, refusals too. FULL strikes whole samples, so the same samples must have been taken in both." Which calls are accepted is worked
 -- out from the calls alone, by the account (Account.antt): no recorder is asked what is compared.
-use Rattle.std.specs.Prelude.{◌≡◌, Bool, false, not, ◌&&◌, ◌||◌, List, [], ◌∷◌, ◌++◌, ℕ, ◌+◌, ◌*◌, eqb, pos, nat_abs, length, get_or, drop}
+use Rattle.std.specs.Prelude.{◌≡◌, Bool, false, not, ◌&&◌, ◌||◌, List, [], ◌∷◌, ◌++◌, ℕ, ◌+◌, ◌*◌, eqb, pos, nat_abs, length, get_or, drop, if◌then◌else◌}
 use Rattle.laws.specs.Answers.{given}
 use Rattle.laws.specs.Any.{any}
 use Rattle.laws.specs.Each.{Each}
-use Rattle.laws.specs.If.{if◌then◌else◌}
 use Rattle.laws.specs.Masks.{mask_of, bit_at}
 use Rattle.settings.specs.Rules.{zero_slot}
 use Rattle.settings.specs.declared.Config.{Config}

@@ -1,11 +1,10 @@
 -- CR 1 over histories: "After any sequence in which only the recorder writes to it, the buffer holds the last records, as many as fit." Which periods were closed, and with which values, is the account's (Account.antt).
-use Rattle.std.specs.Prelude.{◌≡◌, List, [], ◌∷◌, ◌++◌, reverse, ℕ, ◌*◌, ◌/◌, ◌<◌, ◌≤◌, min, ℤ, length, get_or, take, drop}
+use Rattle.std.specs.Prelude.{◌≡◌, List, [], ◌∷◌, ◌++◌, reverse, ℕ, ◌*◌, ◌/◌, ◌<◌, ◌≤◌, min, ℤ, length, get_or, take, drop, if◌then◌else◌}
 use Rattle.std.specs.Int.{w64}
 use Rattle.std.proofs.Common.{of_z}
 use Rattle.laws.specs.Answers.{Answer, given, refused}
 use Rattle.laws.specs.Bytes.{bytes_of}
 use Rattle.laws.specs.Each.{Each}
-use Rattle.laws.specs.If.{if◌then◌else◌}
 use Rattle.laws.specs.Runs.{joined}
 use Rattle.laws.specs.Tables.{table}
 use Rattle.settings.specs.Rules.{zero_slot}

@@ -1,8 +1,7 @@
 -- CR 4: "Read one line .. and hand back the value text as the part of the caller's line where it stands, then turn it into a whole number with a stated count of decimals, 0 to 9, and book it as a
 -- reading whose meter, STATUS and SEQ the caller gives." What a line, a number and a block are is said in crate readout (specs/DataSets, Numbers and Blocks), of bytes alone; its laws are gathered here.
-use Rattle.std.specs.Prelude.{◌≡◌, List, ◌++◌, ℕ, ℤ, drop}
+use Rattle.std.specs.Prelude.{◌≡◌, List, ◌++◌, ℕ, ℤ, drop, if◌then◌else◌}
 use Rattle.laws.specs.Answers.{Answer, given, refused}
-use Rattle.laws.specs.If.{if◌then◌else◌}
 use Rattle.readout.specs.Answers.{line_number}
 use Rattle.readout.specs.Blocks.{is_block}
 use Rattle.readout.specs.Laws.{Sent, OneSplit, NumberAsWritten, NumberReadBack, LineReadBack, BlockAroundBytes, OneByteChanged}

@@ -1,8 +1,7 @@
 -- What the registers show after a history: the age classes spelled out, and the bytes of the nine groups of document 01's table in the account's words.
-use Rattle.std.specs.Prelude.{Bool, true, not, ◌&&◌, ◌||◌, cond, List, ◌++◌, ℕ, ◌+◌, ◌*◌, ◌/◌, ◌%◌, ltb, eqb, pos, get_or, replicate}
+use Rattle.std.specs.Prelude.{Bool, true, not, ◌&&◌, ◌||◌, cond, List, ◌++◌, ℕ, ◌+◌, ◌*◌, ◌/◌, ◌%◌, ltb, eqb, pos, get_or, replicate, if◌then◌else◌}
 use Rattle.std.specs.Int.{w32, w64}
 use Rattle.std.proofs.Common.{of_z}
-use Rattle.laws.specs.If.{if◌then◌else◌}
 use Rattle.laws.specs.Bytes.{bytes_of}
 use Rattle.laws.specs.Counts.{count_of}
 use Rattle.laws.specs.Masks.{bit}

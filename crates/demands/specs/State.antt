@@ -1,6 +1,5 @@
 -- The recorder's state as the account of a history spells it out, field by field, in the words of document 01.
-use Rattle.std.specs.Prelude.{false, List, [], ◌∷◌, ℕ, ◌+◌, ◌*◌, ◌/◌, ◌%◌, min, eqb, ℤ, pos, ◌*ℤ◌, length, get_or, replicate}
-use Rattle.laws.specs.If.{if◌then◌else◌}
+use Rattle.std.specs.Prelude.{false, List, [], ◌∷◌, ℕ, ◌+◌, ◌*◌, ◌/◌, ◌%◌, min, eqb, ℤ, pos, ◌*ℤ◌, length, get_or, replicate, if◌then◌else◌}
 use Rattle.laws.specs.SignedTotal.{totalℤ}
 use Rattle.laws.specs.Tables.{table}
 use Rattle.settings.specs.Rules.{zero_slot}

@@ -1,4 +1,5 @@
 -- The laws of specs/Laws.antt on numbers, registers' fields, dates and times: what is shown is the number, with its sign and at its width, and a reader of data sets reads it so.
+use Rattle.std.specs.Prelude.{if◌then◌else◌}
 use mathlib.Core.Path.{◌≡◌, refl, sym, ap, ◌∙◌}
 use mathlib.Core.Bool.{Bool, true, false, true≢false}
 use mathlib.Core.List.{List, [], ◌∷◌, ◌++◌, append_assoc}
@@ -14,7 +15,6 @@ use mir.Syntax.{Width, w32, w64}
 use mir.Val.{SFits, bits, hbits, of_z}
 use Rattle.laws.specs.Decimals.{is_digit, value_from, last_digits, decimal_in, decimal_of}
 use Rattle.laws.specs.Each.{Each}
-use Rattle.laws.specs.If.{if◌then◌else◌}
 use Rattle.laws.proofs.Decimals.{value_append}
 use Rattle.laws.proofs.Digits.{front_digit, decimal_is, decimal_has, decimal_all, zeros_digits, zeros_before, zeros_behind, last_digits_lem, last_length, last_value}
 use Rattle.laws.proofs.Each.{each_append}

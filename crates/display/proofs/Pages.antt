@@ -1,4 +1,5 @@
 -- Laws of the two steps (specs/Steps.antt): what a format string comes to from a place on, by what stands there.
+use Rattle.std.specs.Prelude.{if◌then◌else◌}
 use mathlib.Core.Path.{◌≡◌, refl, sym, ap, ◌∙◌}
 use mathlib.Core.Bool.{true, false, true≢false}
 use mathlib.Core.List.{List, [], ◌∷◌}
@@ -10,7 +11,6 @@ use lib.ListN.{length, get_or, drop, drop_of_length-le, length-drop}
 use lib.Seq.{drop-drop}
 use native.Mathlib.Nat.{add_assoc}
 use Rattle.laws.specs.Answers.{Answer, given, refused, number_in}
-use Rattle.laws.specs.If.{if◌then◌else◌}
 use Rattle.laws.proofs.Suffixes.{from_letter}
 use Rattle.laws.proofs.Tests.{by_test}
 use Rattle.registers.specs.Registers.{refusal, register_read}

@@ -1,4 +1,5 @@
 -- Laws of the screen (specs/Steps.antt): characters one after another, and what stands on it at the end.
+use Rattle.std.specs.Prelude.{if◌then◌else◌}
 use mathlib.Core.Path.{◌≡◌, refl, sym, ap, ◌∙◌}
 use mathlib.Core.List.{List, [], ◌∷◌, ◌++◌}
 use Prim.Native.Nat.{ℕ, suc, ◌+◌, ◌-◌, ◌≤◌, ◌<◌}
@@ -9,7 +10,6 @@ use lib.Dec.{ltb, leb}
 use lib.ListN.{length, get_or, set, replicate, length-set, get_or-replicate}
 use lib.Seq.{get_or-set_same, get_or-set_other}
 use Rattle.laws.specs.Answers.{Answer, given, refused}
-use Rattle.laws.specs.If.{if◌then◌else◌}
 use Rattle.laws.specs.Tables.{table}
 use Rattle.laws.proofs.If.{if_cases}
 use Rattle.laws.proofs.Tables.{table_cong, table_self, table_append}

@@ -1,4 +1,5 @@
 -- Laws of specifications (specs/Formats.antt): a number's specification from a place of the string on, as the code reads it; how many bytes it has.
+use Rattle.std.specs.Prelude.{if◌then◌else◌}
 use mathlib.Core.Path.{◌≡◌, refl, sym, ap, ◌∙◌}
 use mathlib.Core.Bool.{Bool, true, false, true≢false, not, ◌&&◌, ◌||◌}
 use mathlib.Core.List.{List}
@@ -11,7 +12,6 @@ use lib.Dec.{ltb, eqb}
 use lib.ListN.{length, get_or, drop, length-drop}
 use lib.Seq.{get_or-drop}
 use Rattle.laws.specs.Decimals.{is_digit}
-use Rattle.laws.specs.If.{if◌then◌else◌}
 use Rattle.laws.specs.Masks.{bit}
 use Rattle.laws.proofs.If.{if_cases}
 use Rattle.laws.proofs.Suffixes.{inside}

@@ -1,8 +1,7 @@
 -- What each part of a format string shows, the two lines, and the reply. "Two lines of sixteen characters. .. Characters past the sixteenth of a line are dropped, and lines after the second too; what
 -- isn't written is blank. .. Refusals: 13 NO ROOM first, for a buffer below 32 bytes; then in string order 21 FORMAT for a bad specification, 22 ARGUMENT when bytes are missing or name no readable field."
-use Rattle.std.specs.Prelude.{List, [], ◌∷◌, ◌++◌, map, ℕ, zero, suc, ltb, length, get_or, drop}
+use Rattle.std.specs.Prelude.{List, [], ◌∷◌, ◌++◌, map, ℕ, zero, suc, ltb, length, get_or, drop, if◌then◌else◌}
 use Rattle.laws.specs.Answers.{Answer, given, refused}
-use Rattle.laws.specs.If.{if◌then◌else◌}
 use Rattle.laws.specs.Tables.{table}
 use Rattle.calendar.specs.Moments.{moment_of}
 use Rattle.recorder.specs.declared.Recorder.{Recorder}

@@ -1,8 +1,7 @@
 -- "F uses up three argument bytes each (group, register, field from 0). .. F shows one field of a register." A field is read through the register request.
-use Rattle.std.specs.Prelude.{Bool, true, false, ◌&&◌, List, [], ◌∷◌, ℕ, ◌-◌, ◌/◌, ◌^◌, ltb, leb, eqb, length, get_or, take, drop, replicate}
+use Rattle.std.specs.Prelude.{Bool, true, false, ◌&&◌, List, [], ◌∷◌, ℕ, ◌-◌, ◌/◌, ◌^◌, ltb, leb, eqb, length, get_or, take, drop, replicate, if◌then◌else◌}
 use Rattle.laws.specs.Answers.{Answer, given, refused}
 use Rattle.laws.specs.Bytes.{le}
-use Rattle.laws.specs.If.{if◌then◌else◌}
 use Rattle.laws.specs.Total.{total}
 use Rattle.recorder.specs.declared.Recorder.{Recorder}
 use Rattle.registers.specs.Registers.{register_reply}

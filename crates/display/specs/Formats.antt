@@ -1,8 +1,7 @@
 -- What a format string means: "plain text, a line break (backslash n; any other backslash is text), per cent D .., per cent T .., or per cent, optional zero, optional width 1 to 16 without leading
 -- zero, optional point with one digit of decimals, optional u, and F. Text and specifications alternate until the string ends."
-use Rattle.std.specs.Prelude.{Bool, not, ◌&&◌, ◌||◌, List, [], ◌∷◌, ℕ, zero, suc, ◌+◌, ◌-◌, ◌*◌, ltb, leb, eqb, length, get_or, drop}
+use Rattle.std.specs.Prelude.{Bool, not, ◌&&◌, ◌||◌, List, [], ◌∷◌, ℕ, zero, suc, ◌+◌, ◌-◌, ◌*◌, ltb, leb, eqb, length, get_or, drop, if◌then◌else◌}
 use Rattle.laws.specs.Decimals.{is_digit}
-use Rattle.laws.specs.If.{if◌then◌else◌}
 use Rattle.laws.specs.Masks.{bit}
 use Rattle.display.specs.declared.formats.Form.{Form}
 

@@ -1,12 +1,11 @@
 -- What is proved of the display, for every recorder and every way to read registers: what is meant is what is written, numbers are those that were read, and what is dropped.
-use Rattle.std.specs.Prelude.{◌≡◌, true, false, List, [], ◌∷◌, ◌++◌, ◌⊎◌, ℕ, suc, ◌+◌, ◌*◌, ◌^◌, ◌≤◌, ◌<◌, max, ℤ, pos, negsuc, length, get_or, drop, replicate}
+use Rattle.std.specs.Prelude.{◌≡◌, true, false, List, [], ◌∷◌, ◌++◌, ◌⊎◌, ℕ, suc, ◌+◌, ◌*◌, ◌^◌, ◌≤◌, ◌<◌, max, ℤ, pos, negsuc, length, get_or, drop, replicate, if◌then◌else◌}
 use Rattle.std.specs.Int.{w32, w64}
 use Rattle.std.proofs.Common.{SFits, of_z}
 use Rattle.laws.specs.Answers.{Answer, given, refused}
 use Rattle.laws.specs.Bytes.{bytes_of}
 use Rattle.laws.specs.Decimals.{is_digit, value_from}
 use Rattle.laws.specs.Each.{Each}
-use Rattle.laws.specs.If.{if◌then◌else◌}
 use Rattle.laws.specs.Total.{total}
 use Rattle.calendar.specs.Moments.{IsMoment, moment_of}
 use Rattle.calendar.specs.declared.Moment.{Moment}

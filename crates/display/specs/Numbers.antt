@@ -1,10 +1,9 @@
 -- Dates, times and numbers as they are shown. "F shows one field of a register in decimal: 123 under %09.1F is 0000123.0. With a u before the F the value is shifted by the decimals, so 123456 under
 -- %09.3uF is 00123.456. Width counts sign and point; a digit stands before each point, without u zeros after it; without decimals, or with 0, no point shows; padding stands on the left (blanks, or if
 -- the zero stands, zeros after the sign), and a longer number is shown whole."
-use Rattle.std.specs.Prelude.{List, [], ◌∷◌, ◌++◌, ℕ, ◌-◌, ◌/◌, ◌^◌, length, replicate}
+use Rattle.std.specs.Prelude.{List, [], ◌∷◌, ◌++◌, ℕ, ◌-◌, ◌/◌, ◌^◌, length, replicate, if◌then◌else◌}
 use Rattle.laws.specs.Answers.{Answer, given, refused}
 use Rattle.laws.specs.Decimals.{last_digits, decimal_of}
-use Rattle.laws.specs.If.{if◌then◌else◌}
 use Rattle.calendar.specs.declared.Moment.{Moment}
 use Rattle.readout.specs.Numbers.{Decimal, sign_text, pointed, text_of}
 use Rattle.display.specs.declared.fields.Value.{Value}

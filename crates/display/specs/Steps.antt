@@ -1,7 +1,6 @@
 -- What only the code has: the screen on which it writes, character by character, and what its private answers say.
-use Rattle.std.specs.Prelude.{Bool, List, [], ◌∷◌, ℕ, ◌+◌, leb, replicate, set}
+use Rattle.std.specs.Prelude.{Bool, List, [], ◌∷◌, ℕ, ◌+◌, leb, replicate, set, if◌then◌else◌}
 use Rattle.laws.specs.Answers.{Answer, given, refused}
-use Rattle.laws.specs.If.{if◌then◌else◌}
 use Rattle.recorder.specs.declared.Recorder.{Recorder}
 use Rattle.display.specs.Formats.{FormatPart, the_date, the_time, number, bad_format, Begun, meaning, parts_behind, specification_in}
 use Rattle.display.specs.Fields.{read_by}

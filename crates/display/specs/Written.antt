@@ -1,7 +1,6 @@
 -- A format string as it is written, part by part: the same rules the other way round. What is proved of the two stands in Laws.antt.
-use Rattle.std.specs.Prelude.{◌≡◌, Bool, false, List, [], ◌∷◌, ◌++◌, ℕ, ◌+◌, ◌≤◌, eqb, get_or}
+use Rattle.std.specs.Prelude.{◌≡◌, Bool, false, List, [], ◌∷◌, ◌++◌, ℕ, ◌+◌, ◌≤◌, eqb, get_or, if◌then◌else◌}
 use Rattle.laws.specs.Decimals.{decimal_in}
-use Rattle.laws.specs.If.{if◌then◌else◌}
 use Rattle.display.specs.Formats.{FormatPart, letter, line_break, the_date, the_time, number, bad_format}
 use Rattle.display.specs.declared.formats.Form.{Form}
 

@@ -6,8 +6,7 @@ mod formats;
 mod numbers;
 mod screen;
 
-ghost use Rattle.std.specs.Prelude.{◌≡◌, ◌++◌, ◌≤◌, length, drop};
-ghost use Rattle.laws.specs.If.{if◌then◌else◌};
+ghost use Rattle.std.specs.Prelude.{◌≡◌, ◌++◌, ◌≤◌, length, drop, if◌then◌else◌};
 ghost use Rattle.display.specs.Formats.{is_break};
 ghost use Rattle.display.specs.Fields.{read_by, argument_of};
 ghost use Rattle.display.specs.Displays.{display_replied, display_reply};

@@ -1,6 +1,5 @@
 -- What checking, reading and writing an image answer, with document 01's numbers and offsets: "As offset 3 gives 3, 4 that of its entry, all others 0."
-use Rattle.std.specs.Prelude.{Bool, ◌&&◌, List, ◌++◌, ◌≡◌, ℕ, eqb, ltb, length, get_or, drop, replicate}
-use Rattle.laws.specs.If.{if◌then◌else◌}
+use Rattle.std.specs.Prelude.{Bool, ◌&&◌, List, ◌++◌, ◌≡◌, ℕ, eqb, ltb, length, get_or, drop, replicate, if◌then◌else◌}
 use Rattle.laws.specs.Answers.{Answer, given, refused}
 use Rattle.laws.specs.Bytes.{le}
 use Rattle.image.specs.Image.{encode, decode, blank_config}

@@ -1,4 +1,5 @@
 -- A count that goes round, and a list read from its end.
+use Rattle.std.specs.Prelude.{if◌then◌else◌}
 use mathlib.Core.Path.{◌≡◌, refl, sym, ap, ◌∙◌}
 use mathlib.Core.List.{List, [], ◌∷◌, map, reverse, reverse_aux}
 use Prim.Native.Nat.{ℕ, zero, suc, ◌+◌, ◌-◌, ◌*◌, ◌/◌, ◌%◌, ◌<◌, ◌≤◌}
@@ -8,7 +9,6 @@ use lib.Dec.{ltb}
 use lib.ListN.{length, get_or, take}
 use lib.Arith.{digits_mod}
 use borrow.Author.Tests.{ltb-true, ltb-false}
-use Rattle.laws.specs.If.{if◌then◌else◌}
 use Rattle.laws.proofs.Tests.{by_test}
 
 -- one more, and from 0 again

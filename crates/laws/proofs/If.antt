@@ -1,7 +1,7 @@
 -- Laws of specs/If.antt.
+use Rattle.std.specs.Prelude.{if◌then◌else◌}
 use mathlib.Core.Path.{◌≡◌, refl}
 use mathlib.Core.Bool.{Bool, true, false}
-use Rattle.laws.specs.If.{if◌then◌else◌}
 
 -- what holds of each part, where the test says so, holds of the choice
 pub if_cases : {A : Type 0} (P : A → Type 0) (b : Bool) {x y : A} → (b ≡ true → P x) → (b ≡ false → P y) → P (if b then x else y)

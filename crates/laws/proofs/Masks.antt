@@ -1,4 +1,5 @@
 -- Laws of specs/Masks.antt.
+use Rattle.std.specs.Prelude.{if◌then◌else◌}
 use mathlib.Core.Path.{◌≡◌, refl, sym, ap, ◌∙◌}
 use mathlib.Core.Bool.{Bool, true, false, ◌&&◌, not, ◌||◌}
 use mathlib.Core.Logic.{⊎_elim}
@@ -11,7 +12,6 @@ use lib.Dec.{eqb, ltb}
 use lib.Pow.{pow_pos, high, split, field, shr_lt, mod-mod-pow, shr-shr, pow-lt, pow_mono}
 use borrow.Author.Tests.{lt-ltb, ltb-true, ltb-false, eqb-true, eqb-false, eq-eqb, ne_eqb}
 use Rattle.laws.proofs.Tests.{by_test}
-use Rattle.laws.specs.If.{if◌then◌else◌}
 use Rattle.laws.specs.Any.{any}
 use Rattle.laws.proofs.Any.{any_low, any_none}
 use Rattle.laws.specs.Masks.{bit, bit_at, mask_of, with_bit, or_bit}

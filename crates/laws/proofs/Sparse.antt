@@ -1,4 +1,5 @@
 -- A loop over the bits of a mask, the lowest first: `let i = trailing_zeros(left)`, element i becomes f i, `left = left & (left - 1)`.
+use Rattle.std.specs.Prelude.{if◌then◌else◌}
 use mathlib.Core.Path.{◌≡◌, refl, sym, ap, ◌∙◌}
 use mathlib.Core.Bool.{Bool, true, false, not, ◌&&◌, and-true, and-false}
 use mathlib.Core.List.{List}
@@ -10,7 +11,6 @@ use lib.Count.{count_trailing_zeros}
 use lib.Dec.{eqb}
 use lib.ListN.{get_or, set}
 use borrow.Author.Tests.{eqb-true, eqb-false, eq-eqb, ne_eqb}
-use Rattle.laws.specs.If.{if◌then◌else◌}
 use Rattle.laws.specs.Any.{any}
 use Rattle.laws.proofs.Any.{any_at, any_none}
 use Rattle.laws.specs.Masks.{bit_at}

@@ -1,6 +1,5 @@
 -- The first place at which a test holds. Any search from the front is stated by it.
-use Rattle.std.specs.Prelude.{Bool, ℕ, zero, suc}
-use Rattle.laws.specs.If.{if◌then◌else◌}
+use Rattle.std.specs.Prelude.{Bool, ℕ, zero, suc, if◌then◌else◌}
 
 -- the first place below n at which the test p holds; n where there is none
 unfoldable pub first : ℕ → (ℕ → Bool) → ℕ

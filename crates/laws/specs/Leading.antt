@@ -1,6 +1,5 @@
 -- How far a test holds from the front of a list on. A look for the end of a part is stated by it.
-use Rattle.std.specs.Prelude.{Bool, List, [], ◌∷◌, ℕ, suc}
-use Rattle.laws.specs.If.{if◌then◌else◌}
+use Rattle.std.specs.Prelude.{Bool, List, [], ◌∷◌, ℕ, suc, if◌then◌else◌}
 
 -- how many elements in front pass the test, up to the first that does not
 unfoldable pub leading : (ℕ → Bool) → List ℕ → ℕ

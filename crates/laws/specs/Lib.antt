@@ -1,5 +1,4 @@
 -- General definitions that several crates cite.
-pub mod If
 pub mod First
 pub mod Leading
 pub mod Broken

@@ -1,6 +1,5 @@
 -- HEX: bytes in hexadecimal.
-use Rattle.std.specs.Prelude.{◌≡◌, Bool, true, ◌&&◌, ◌||◌, List, [], ◌∷◌, ◌++◌, ℕ, ◌+◌, ◌-◌, ◌*◌, ◌/◌, ◌%◌, ◌≤◌, ltb, leb, eqb, length, get_or, take, replicate}
-use Rattle.laws.specs.If.{if◌then◌else◌}
+use Rattle.std.specs.Prelude.{◌≡◌, Bool, true, ◌&&◌, ◌||◌, List, [], ◌∷◌, ◌++◌, ℕ, ◌+◌, ◌-◌, ◌*◌, ◌/◌, ◌%◌, ◌≤◌, ltb, leb, eqb, length, get_or, take, replicate, if◌then◌else◌}
 use Rattle.laws.specs.Decimals.{is_digit}
 use Rattle.laws.specs.Letters.{letters}
 use Rattle.laws.specs.Tables.{table}

@@ -1,7 +1,6 @@
 -- The table of lines. A line is taken without its end.
-use Rattle.std.specs.Prelude.{Bool, true, false, not, ◌||◌, List, [], ◌∷◌, ℕ, ◌+◌, ltb, leb, eqb, length, get_or}
+use Rattle.std.specs.Prelude.{Bool, true, false, not, ◌||◌, List, [], ◌∷◌, ℕ, ◌+◌, ltb, leb, eqb, length, get_or, if◌then◌else◌}
 use Rattle.laws.specs.First.{first}
-use Rattle.laws.specs.If.{if◌then◌else◌}
 use Rattle.laws.specs.Letters.{letters}
 use Rattle.lines.specs.Words.{without_return, words, word, same}
 use Rattle.lines.specs.Numbers.{whole_of, signed_of}

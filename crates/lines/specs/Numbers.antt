@@ -1,6 +1,5 @@
 -- Decimal numbers: one digit or more, and nothing else. Zeros in front are allowed, a plus sign is not.
-use Rattle.std.specs.Prelude.{Bool, true, false, ◌&&◌, List, ℕ, ltb, leb, eqb, pos, neg_ℤ, length, get_or, drop}
-use Rattle.laws.specs.If.{if◌then◌else◌}
+use Rattle.std.specs.Prelude.{Bool, true, false, ◌&&◌, List, ℕ, ltb, leb, eqb, pos, neg_ℤ, length, get_or, drop, if◌then◌else◌}
 use Rattle.laws.specs.Decimals.{digits, value_from}
 use Rattle.lines.specs.declared.numbers.Number.{Number}
 use Rattle.lines.specs.declared.numbers.Signed.{Signed}

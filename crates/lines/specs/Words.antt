@@ -1,7 +1,6 @@
 -- The words of a line, which are separated by one blank: two blanks have an empty word between them, and so has a blank at either end.
-use Rattle.std.specs.Prelude.{Bool, true, false, ◌&&◌, List, [], ◌∷◌, ℕ, zero, suc, ◌-◌, eqb, ltb, length, get_or, take}
+use Rattle.std.specs.Prelude.{Bool, true, false, ◌&&◌, List, [], ◌∷◌, ℕ, zero, suc, ◌-◌, eqb, ltb, length, get_or, take, if◌then◌else◌}
 use Rattle.std.specs.Borrow.{Bor}
-use Rattle.laws.specs.If.{if◌then◌else◌}
 use Rattle.laws.specs.Parts.{Part, part_at}
 
 -- a line without the carriage return (13) that may stand at its end

@@ -1,4 +1,5 @@
 -- The laws of specs/Laws.antt.
+use Rattle.std.specs.Prelude.{if◌then◌else◌}
 use mathlib.Core.Path.{◌≡◌, refl, sym, ap, ◌∙◌}
 use mathlib.Core.Bool.{Bool, true, false, true≢false, not, ◌&&◌, cond}
 use mathlib.Core.List.{List, [], ◌∷◌}
@@ -12,7 +13,6 @@ use Rattle.laws.specs.Answers.{given, refused}
 use Rattle.laws.specs.Bytes.{bytes_of}
 use Rattle.laws.specs.Counts.{count_of}
 use Rattle.laws.specs.Each.{Each}
-use Rattle.laws.specs.If.{if◌then◌else◌}
 use Rattle.laws.specs.Masks.{bit, bit_at, mask_of}
 use Rattle.laws.specs.SignedTotal.{totalℤ}
 use Rattle.laws.proofs.If.{if_cases}

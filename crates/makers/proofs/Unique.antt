@@ -1,9 +1,9 @@
 -- No second result, and no second buffer, fits the contract of a public function of this crate.
+use Rattle.std.specs.Prelude.{if◌then◌else◌}
 use mathlib.Core.Path.{◌≡◌, refl, sym, ap, ◌∙◌}
 use Prim.Native.Nat.{ℕ}
 use lib.Dec.{eqb}
 use Rattle.laws.specs.Answers.{Answer, given, refused, Reply}
-use Rattle.laws.specs.If.{if◌then◌else◌}
 use Rattle.laws.specs.Unique.{OneResult, OneExit}
 use Rattle.laws.proofs.Unique.{told_apart}
 use Rattle.recorder.specs.declared.Setup.{Setup}

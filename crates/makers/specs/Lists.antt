@@ -1,6 +1,5 @@
 -- "At the start give three makers each a list of meters, inputs, slots and bill registers. .. Refusals: 20 NO MAKER, for a maker above 2."
-use Rattle.std.specs.Prelude.{ℕ, ltb, set}
-use Rattle.laws.specs.If.{if◌then◌else◌}
+use Rattle.std.specs.Prelude.{ℕ, ltb, set, if◌then◌else◌}
 use Rattle.laws.specs.Answers.{Reply}
 use Rattle.recorder.specs.declared.MakerList.{MakerList}
 use Rattle.recorder.specs.declared.Setup.{Setup}

@@ -1,7 +1,6 @@
 -- "A maker's register request for something not on the list gets NO REGISTER; group 204 covers that maker's meters only; groups 89, 90, 91 and 206 are common. .. Refusals: 20 NO MAKER, for a maker
 -- above 2, before 11; 12 now also for what isn't on the list." Bit i of a mask names meter, input, slot or bill register i.
-use Rattle.std.specs.Prelude.{Bool, true, not, List, ℕ, ltb, eqb, get_or}
-use Rattle.laws.specs.If.{if◌then◌else◌}
+use Rattle.std.specs.Prelude.{Bool, true, not, List, ℕ, ltb, eqb, get_or, if◌then◌else◌}
 use Rattle.laws.specs.Answers.{Answer, refused}
 use Rattle.laws.specs.Masks.{bit_at}
 use Rattle.laws.specs.Tables.{table}

@@ -1,8 +1,7 @@
 // Each maker reads only their own: the lists that a start is given, and a maker's register requests.
 #![tactic(auto)]
 
-ghost use Rattle.std.specs.Prelude.{◌≡◌};
-ghost use Rattle.laws.specs.If.{if◌then◌else◌};
+ghost use Rattle.std.specs.Prelude.{◌≡◌, if◌then◌else◌};
 ghost use Rattle.makers.specs.Lists.{listing_said, list_reply};
 ghost use Rattle.makers.specs.Requests.{on_list, only_meters, maker_replied, maker_reply};
 

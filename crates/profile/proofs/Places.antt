@@ -1,11 +1,11 @@
 -- The places of records: what the code works out step by step, and that they are within the room.
+use Rattle.std.specs.Prelude.{if◌then◌else◌}
 use mathlib.Core.Path.{◌≡◌, refl, sym, ◌∙◌}
 use mathlib.Core.Bool.{true}
 use Prim.Native.Nat.{ℕ, ◌+◌, ◌-◌, ◌*◌, ◌<◌, ◌≤◌}
 use native.Mathlib.Omega.{arith}
 use lib.Dec.{ltb, leb, eqb}
 use borrow.Author.Tests.{lt-ltb, le-ltb, ltb-true, ltb-false, leb-true, eqb-true}
-use Rattle.laws.specs.If.{if◌then◌else◌}
 use Rattle.laws.proofs.Tests.{by_test, and_left, and_right}
 use Rattle.profile.specs.Room.{legal_length, as_at_start, room_for, room_of, within, next_place}
 use Rattle.profile.specs.Reading.{oldest_of, place_at}

@@ -1,4 +1,5 @@
 -- The buffer holds the last records. The j-th newest stands j places before the newest, from the last place again before the first.
+use Rattle.std.specs.Prelude.{if◌then◌else◌}
 use mathlib.Core.Path.{◌≡◌, refl, sym, ap, subst, ◌∙◌}
 use mathlib.Core.Bool.{true}
 use mathlib.Core.List.{List, [], ◌∷◌}
@@ -11,7 +12,6 @@ use lib.Seq.{sets, get_or-take}
 use mir.Syntax.{w64}
 use mir.Val.{of_z}
 use borrow.Author.Tests.{lt-ltb, le-ltb, ltb-true, ltb-false, eq-eqb}
-use Rattle.laws.specs.If.{if◌then◌else◌}
 use Rattle.laws.specs.Each.{Each}
 use Rattle.laws.proofs.Tests.{by_test, and_both}
 use Rattle.laws.proofs.Bytes.{length_bytes_of}

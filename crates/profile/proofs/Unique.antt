@@ -1,8 +1,8 @@
 -- No second result, and no second buffer, fits the contract of a public function of the profile.
+use Rattle.std.specs.Prelude.{if◌then◌else◌}
 use mathlib.Core.Path.{◌≡◌, refl, sym, ap, ◌∙◌}
 use lib.Dec.{eqb}
 use Rattle.laws.specs.Answers.{Answer, given, refused}
-use Rattle.laws.specs.If.{if◌then◌else◌}
 use Rattle.laws.specs.Unique.{OneResult, OneExit}
 use Rattle.laws.proofs.Unique.{told_apart}
 use Rattle.profile.specs.Room.{Kept}

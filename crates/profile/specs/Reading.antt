@@ -1,6 +1,5 @@
 -- CR 1: "Reading goes in writing order, oldest first (index 0). .. 14 PROFILE BUFFER, .. 15 NO RECORD, for an index not held, then 13 for a result below 69 bytes."
-use Rattle.std.specs.Prelude.{not, List, ◌++◌, ℕ, ◌+◌, ◌-◌, ◌*◌, min, ltb, leb, length, take, drop}
-use Rattle.laws.specs.If.{if◌then◌else◌}
+use Rattle.std.specs.Prelude.{not, List, ◌++◌, ℕ, ◌+◌, ◌-◌, ◌*◌, min, ltb, leb, length, take, drop, if◌then◌else◌}
 use Rattle.laws.specs.Answers.{Answer, given, refused}
 use Rattle.profile.specs.Room.{as_at_start, room_of, next_place}
 use Rattle.profile.specs.declared.Profile.{Profile}

@@ -1,7 +1,6 @@
 -- CR 1: "a lent buffer of 69 to 65,536 bytes. When the room is used up, the oldest record's room is taken for the newest. .. Bytes past the last whole record's room are never written."
-use Rattle.std.specs.Prelude.{Bool, ◌&&◌, List, [], ◌∷◌, ℕ, ◌+◌, ◌*◌, ◌/◌, min, ltb, leb, eqb, length}
+use Rattle.std.specs.Prelude.{Bool, ◌&&◌, List, [], ◌∷◌, ℕ, ◌+◌, ◌*◌, ◌/◌, min, ltb, leb, eqb, length, if◌then◌else◌}
 use Rattle.std.proofs.lemmas.List.Edits.{sets}
-use Rattle.laws.specs.If.{if◌then◌else◌}
 use Rattle.profile.specs.Records.{record_bytes}
 use Rattle.profile.specs.declared.Profile.{Profile}
 use Rattle.profile.specs.declared.records.Record.{Record}

@@ -1,4 +1,5 @@
 -- The place of a value (specs/DataSets.antt): what its tests come to, one after another; it stands within the line, and has a letter.
+use Rattle.std.specs.Prelude.{if◌then◌else◌}
 use mathlib.Core.Path.{◌≡◌, refl}
 use mathlib.Core.Bool.{true, false, ◌&&◌}
 use mathlib.Core.List.{List}
@@ -10,7 +11,6 @@ use lib.Dec.{leb, eqb}
 use lib.Seq.{length-take-le}
 use lib.ListN.{length, get_or, take, drop, length-drop}
 use Rattle.laws.specs.Answers.{given, refused}
-use Rattle.laws.specs.If.{if◌then◌else◌}
 use Rattle.laws.specs.Leading.{leading}
 use Rattle.laws.proofs.Answers.{by_answer}
 use Rattle.laws.proofs.Leading.{leading_most}

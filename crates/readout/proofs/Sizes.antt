@@ -1,4 +1,5 @@
 -- The size of a number as the code finds it (specs/Held.antt) is that of its definition (specs/Numbers.antt), held: without a point, and with digits behind one.
+use Rattle.std.specs.Prelude.{if◌then◌else◌}
 use mathlib.Core.Path.{◌≡◌, refl, sym, ap, ◌∙◌}
 use mathlib.Core.Bool.{true, false, ◌&&◌, true≢false}
 use mathlib.Core.List.{List, [], ◌∷◌, ◌++◌, append-nil}
@@ -13,7 +14,6 @@ use lib.Seq.{take_all}
 use Rattle.laws.specs.Answers.{given, refused}
 use Rattle.laws.specs.Decimals.{is_digit, digits, value_from}
 use Rattle.laws.specs.Each.{Each}
-use Rattle.laws.specs.If.{if◌then◌else◌}
 use Rattle.laws.specs.Leading.{leading}
 use Rattle.laws.proofs.Decimals.{value_append, value_split, value_below, value_zero, zeros_value, digits_each, each_digits}
 use Rattle.laws.proofs.Leading.{leading_all, leading_each}

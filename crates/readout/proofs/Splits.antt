@@ -1,4 +1,5 @@
 -- Each line is the line of at most one data set, and the place of the value is found exactly where there is one (specs/Laws.antt, OneSplit).
+use Rattle.std.specs.Prelude.{if◌then◌else◌}
 use mathlib.Core.Path.{◌≡◌, refl, sym, ap, ◌∙◌}
 use mathlib.Core.Bool.{true, false, ◌&&◌}
 use mathlib.Core.List.{List, [], ◌∷◌, ◌++◌}
@@ -10,7 +11,6 @@ use lib.Dec.{leb, eqb}
 use lib.ListN.{length, get_or, take, drop, take-append-drop, drop_of_length-le}
 use lib.Seq.{drop-drop, length-take-le, take-append_seam, drop-append_seam}
 use Rattle.laws.specs.Answers.{given}
-use Rattle.laws.specs.If.{if◌then◌else◌}
 use Rattle.laws.specs.Leading.{leading}
 use Rattle.laws.proofs.Answers.{by_answer}
 use Rattle.laws.proofs.Leading.{leading_exactly, leading_most, leading_each}

@@ -1,9 +1,9 @@
 -- No second result fits the contract of a public function of the readout. The value's text is a reference: where it stands and what it holds are the same.
+use Rattle.std.specs.Prelude.{if◌then◌else◌}
 use mathlib.Core.Path.{◌≡◌, refl, sym, ◌∙◌}
 use lib.Dec.{eqb}
 use lib.IntN.{ℤ}
 use Rattle.laws.specs.Answers.{Answer, given, refused}
-use Rattle.laws.specs.If.{if◌then◌else◌}
 use Rattle.laws.specs.Parts.{part_of}
 use Rattle.laws.specs.Unique.{OneResult, OneSeen}
 use Rattle.laws.proofs.Unique.{told_apart}

@@ -1,8 +1,7 @@
 -- What the answers of the code say in document 02's numbers.
-use Rattle.std.specs.Prelude.{List, ℕ, ℤ, take, drop}
+use Rattle.std.specs.Prelude.{List, ℕ, ℤ, take, drop, if◌then◌else◌}
 use Rattle.std.specs.Borrow.{Bor}
 use Rattle.laws.specs.Answers.{Answer, given, refused}
-use Rattle.laws.specs.If.{if◌then◌else◌}
 use Rattle.laws.specs.Parts.{Part, part_at}
 use Rattle.readout.specs.DataSets.{Place, value_place}
 use Rattle.readout.specs.Numbers.{whole_number}

@@ -1,9 +1,8 @@
 -- "An address, then the value and perhaps a star and a unit in brackets. .. Address at most 16 bytes, value 1 to 32, unit 1 to 16; printable ASCII without brackets, slash and exclamation mark,
 -- and without a star in value or unit."
-use Rattle.std.specs.Prelude.{◌≡◌, Bool, true, false, not, ◌&&◌, ◌||◌, List, [], ◌∷◌, ◌++◌, ℕ, ◌+◌, ◌≤◌, leb, eqb, length, get_or, drop}
+use Rattle.std.specs.Prelude.{◌≡◌, Bool, true, false, not, ◌&&◌, ◌||◌, List, [], ◌∷◌, ◌++◌, ℕ, ◌+◌, ◌≤◌, leb, eqb, length, get_or, drop, if◌then◌else◌}
 use Rattle.laws.specs.Answers.{Answer, given, refused}
 use Rattle.laws.specs.Each.{Each}
-use Rattle.laws.specs.If.{if◌then◌else◌}
 use Rattle.laws.specs.Leading.{leading}
 
 -- A data set, taken apart

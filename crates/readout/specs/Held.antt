@@ -1,8 +1,7 @@
 -- What only the code has: a number without its sign is held at 4,294,967,295. That does not fit 32 bits with a sign, so which one is held makes no difference.
-use Rattle.std.specs.Prelude.{Bool, true, ◌&&◌, List, [], ◌∷◌, ℕ, ◌-◌, ◌*◌, ◌^◌, min, ltb, eqb, length, take, drop}
+use Rattle.std.specs.Prelude.{Bool, true, ◌&&◌, List, [], ◌∷◌, ℕ, ◌-◌, ◌*◌, ◌^◌, min, ltb, eqb, length, take, drop, if◌then◌else◌}
 use Rattle.laws.specs.Answers.{Answer, given, refused}
 use Rattle.laws.specs.Decimals.{is_digit, value_from}
-use Rattle.laws.specs.If.{if◌then◌else◌}
 use Rattle.laws.specs.Leading.{leading}
 use Rattle.readout.specs.Numbers.{size_of}
 use Rattle.readout.specs.declared.numbers.Digits.{Digits}

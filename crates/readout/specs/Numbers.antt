@@ -1,9 +1,8 @@
 -- "A number is an optional minus, digits, and perhaps a point with digits on both sides; missing decimals count as zeros." Refused: "18 NOT A NUMBER (also for a non-zero digit past the stated
 -- decimals, or decimals above 9), 19 DOES NOT FIT 32 BITS".
-use Rattle.std.specs.Prelude.{◌≡◌, Bool, true, false, ◌&&◌, ◌||◌, List, [], ◌∷◌, ◌++◌, ℕ, suc, ◌+◌, ◌*◌, ◌/◌, ◌%◌, ◌^◌, ◌≤◌, ◌<◌, ltb, leb, eqb, ℤ, pos, negsuc, neg_ℤ, length, get_or, take, drop}
+use Rattle.std.specs.Prelude.{◌≡◌, Bool, true, false, ◌&&◌, ◌||◌, List, [], ◌∷◌, ◌++◌, ℕ, suc, ◌+◌, ◌*◌, ◌/◌, ◌%◌, ◌^◌, ◌≤◌, ◌<◌, ltb, leb, eqb, ℤ, pos, negsuc, neg_ℤ, length, get_or, take, drop, if◌then◌else◌}
 use Rattle.laws.specs.Answers.{Answer, given, refused}
 use Rattle.laws.specs.Decimals.{is_digit, digits, value_from, last_digits, decimal_in}
-use Rattle.laws.specs.If.{if◌then◌else◌}
 use Rattle.laws.specs.Leading.{leading}
 use Rattle.readout.specs.DataSets.{AllOf}
 

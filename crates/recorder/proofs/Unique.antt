@@ -1,10 +1,10 @@
 -- No second result fits the contract of a public function of the recorder.
+use Rattle.std.specs.Prelude.{if◌then◌else◌}
 use mathlib.Core.Path.{◌≡◌, refl, sym, ap, ◌∙◌}
 use mathlib.Core.List.{List}
 use Prim.Native.Nat.{ℕ}
 use lib.Dec.{eqb}
 use Rattle.laws.specs.Answers.{Answer, given, refused, Reply, RunReply}
-use Rattle.laws.specs.If.{if◌then◌else◌}
 use Rattle.laws.specs.Unique.{OneResult, OneExit}
 use Rattle.laws.proofs.Unique.{told_apart}
 use Rattle.profile.specs.Reading.{RecordReply}

@@ -1,7 +1,6 @@
 -- The calls on a recorder, and what the answers of the code say in document 01's numbers. "Order: start 1, 2, 3, 4, 9; sample 5, 6; reading 7, 8, 10. .. Clock sets can give only 9, billing resets
 -- nothing." CR 1 puts 14 before these, and a start's 8 next.
-use Rattle.std.specs.Prelude.{false, not, List, [], ℕ, ℤ, pos, replicate}
-use Rattle.laws.specs.If.{if◌then◌else◌}
+use Rattle.std.specs.Prelude.{false, not, List, [], ℕ, ℤ, pos, replicate, if◌then◌else◌}
 use Rattle.laws.specs.Answers.{Answer, given, refused, Reply, RunReply, reply_to}
 use Rattle.calendar.specs.Moments.{moment_of}
 use Rattle.calendar.specs.declared.Moment.{Moment}

@@ -1,7 +1,6 @@
 -- "A clock set (any value, the present one also) closes the period at the old time as short, sets the clock and starts second and period anew." And: "A billing reset notes each open bill
 -- amount and the clock as closed and sets the open amount to 0; remainders and period go on."
-use Rattle.std.specs.Prelude.{true, List, ℕ, ltb}
-use Rattle.laws.specs.If.{if◌then◌else◌}
+use Rattle.std.specs.Prelude.{true, List, ℕ, ltb, if◌then◌else◌}
 use Rattle.laws.specs.Answers.{Answer, given, refused}
 use Rattle.laws.specs.Tables.{table}
 use Rattle.calendar.specs.Moments.{moment_of}

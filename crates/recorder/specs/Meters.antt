@@ -1,8 +1,7 @@
 -- "A fitted meter is never before its first reading; stale if the clock is past its stamp by more than its limit; else invalid if its IV is set; else awake." CR 2 in place of document 01's words
 -- in brackets: "A stamp ahead of the clock shall be stale." And: "The age class .. refuses limit 0 with 8, then STATUS above 7 with 10." CR 5: "A reading whose SEQ equals the stored one shall replace
 -- value and STATUS but keep the old stamp, after a clock set too, and the call's result says whether the stamp was renewed or kept. A first reading always renews."
-use Rattle.std.specs.Prelude.{Bool, true, false, not, ◌&&◌, ◌||◌, List, ℕ, ◌+◌, ◌%◌, ltb, eqb, ℤ, pos, get_or, set}
-use Rattle.laws.specs.If.{if◌then◌else◌}
+use Rattle.std.specs.Prelude.{Bool, true, false, not, ◌&&◌, ◌||◌, List, ℕ, ◌+◌, ◌%◌, ltb, eqb, ℤ, pos, get_or, set, if◌then◌else◌}
 use Rattle.laws.specs.Answers.{Answer, given, refused}
 use Rattle.settings.specs.declared.Config.{Config}
 use Rattle.recorder.specs.declared.meters.Age.{Age}

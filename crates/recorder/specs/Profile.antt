@@ -1,6 +1,5 @@
 -- CR 1 for the recorder: the record of a closed period, and calls that are lent the buffer for records.
-use Rattle.std.specs.Prelude.{List, [], ◌∷◌, map, ℕ, length}
-use Rattle.laws.specs.If.{if◌then◌else◌}
+use Rattle.std.specs.Prelude.{List, [], ◌∷◌, map, ℕ, length, if◌then◌else◌}
 use Rattle.laws.specs.Answers.{Answer, given, refused}
 use Rattle.profile.specs.Records.{chosen_values}
 use Rattle.profile.specs.Room.{as_at_start, kept, with_records, moved_by}

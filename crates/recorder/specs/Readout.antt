@@ -1,8 +1,7 @@
 -- CR 4: "Turn it into a whole number with a stated count of decimals, 0 to 9, and book it as a reading whose meter, STATUS and SEQ the caller gives. .. Refusals, in this order: 16 BLOCK, 17 LINE,
 -- 18 NOT A NUMBER .., 19 DOES NOT FIT 32 BITS, then those of a reading."
-use Rattle.std.specs.Prelude.{List, ℕ, ℤ}
+use Rattle.std.specs.Prelude.{List, ℕ, ℤ, if◌then◌else◌}
 use Rattle.laws.specs.Answers.{Answer, given, refused}
-use Rattle.laws.specs.If.{if◌then◌else◌}
 use Rattle.readout.specs.Answers.{line_number}
 use Rattle.readout.specs.Blocks.{is_block}
 use Rattle.recorder.specs.Meters.{Stamping, ReadingReply}

@@ -1,8 +1,7 @@
 -- What the registers hold, group by group: the third column of document 01's table. "Numbers in .. registers have the least significant byte first; signed ones are two's complement."
-use Rattle.std.specs.Prelude.{Bool, false, List, ◌++◌, ℕ, ◌+◌, ◌-◌, ◌*◌, ◌/◌, ◌%◌, eqb, ℤ, length, replicate}
+use Rattle.std.specs.Prelude.{Bool, false, List, ◌++◌, ℕ, ◌+◌, ◌-◌, ◌*◌, ◌/◌, ◌%◌, eqb, ℤ, length, replicate, if◌then◌else◌}
 use Rattle.std.specs.Int.{w32, w64}
 use Rattle.std.proofs.Common.{of_z}
-use Rattle.laws.specs.If.{if◌then◌else◌}
 use Rattle.laws.specs.Answers.{Answer, given, refused}
 use Rattle.laws.specs.Bytes.{bytes_of}
 use Rattle.laws.specs.Masks.{bit}

@@ -1,6 +1,5 @@
 -- "204 fleet: fitted, awake, stale, invalid, never 1 each; signed sum of awake values 8."
-use Rattle.std.specs.Prelude.{Bool, cond, List, ℕ, ltb, eqb, ℤ, pos, get_or}
-use Rattle.laws.specs.If.{if◌then◌else◌}
+use Rattle.std.specs.Prelude.{Bool, cond, List, ℕ, ltb, eqb, ℤ, pos, get_or, if◌then◌else◌}
 use Rattle.laws.specs.Counts.{count_of}
 use Rattle.laws.specs.SignedTotal.{totalℤ}
 use Rattle.laws.specs.Tables.{table}

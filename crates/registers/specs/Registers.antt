@@ -1,6 +1,5 @@
 -- Document 01's table of registers, one line for each group, and what a request answers. "Order: .. register 11, 12, 8, 13."
-use Rattle.std.specs.Prelude.{Bool, true, not, List, [], ◌∷◌, ◌++◌, ℕ, leb, eqb, length, drop, get_or}
-use Rattle.laws.specs.If.{if◌then◌else◌}
+use Rattle.std.specs.Prelude.{Bool, true, not, List, [], ◌∷◌, ◌++◌, ℕ, leb, eqb, length, drop, get_or, if◌then◌else◌}
 use Rattle.laws.specs.Answers.{Answer, given, refused}
 use Rattle.settings.specs.Rules.{zero_input, zero_slot, zero_register}
 use Rattle.settings.specs.declared.Config.{Config}

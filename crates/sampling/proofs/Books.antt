@@ -1,4 +1,5 @@
 -- Laws of what a sample books.
+use Rattle.std.specs.Prelude.{if◌then◌else◌}
 use mathlib.Core.Path.{◌≡◌, refl, sym, ap, ◌∙◌}
 use mathlib.Core.Bool.{Bool, true, false, not, ◌&&◌}
 use mathlib.Core.List.{List}
@@ -9,7 +10,6 @@ use lib.Dec.{ltb, eqb}
 use lib.ListN.{length, get_or, set}
 use lib.Seq.{get_or-set_same, get_or-set_other}
 use borrow.Author.Tests.{ltb-true, lt-ltb, eqb-true, eqb-false}
-use Rattle.laws.specs.If.{if◌then◌else◌}
 use Rattle.laws.proofs.If.{if_same}
 use Rattle.laws.proofs.Tests.{by_test}
 use Rattle.laws.proofs.Any.{any_none}

@@ -1,4 +1,5 @@
 -- Runs of samples that end at a closing: how one goes on, and that such runs with the closings between them are the whole run, with the periods that it closes.
+use Rattle.std.specs.Prelude.{if◌then◌else◌}
 use mathlib.Core.Path.{◌≡◌, refl, sym, ap, ◌∙◌}
 use mathlib.Core.Bool.{Bool, true, false, true≢false}
 use mathlib.Core.List.{List, [], ◌∷◌, ◌++◌}
@@ -10,7 +11,6 @@ use lib.Dec.{leb}
 use lib.ListN.{length, get_or, drop, drop_of_length-le}
 use lib.Seq.{drop-cons, drop-length}
 use borrow.Author.Tests.{ne_eqb}
-use Rattle.laws.specs.If.{if◌then◌else◌}
 use Rattle.laws.proofs.Tests.{by_test}
 use Rattle.laws.specs.Answers.{Answer, given, refused, RunReply}
 use Rattle.settings.specs.declared.Config.{Config}

@@ -1,8 +1,8 @@
 -- No second result fits the contract of a public function of the sampling.
+use Rattle.std.specs.Prelude.{if◌then◌else◌}
 use mathlib.Core.Path.{◌≡◌, refl, sym, ap, ◌∙◌}
 use Prim.Native.Nat.{ℕ}
 use lib.Dec.{eqb}
-use Rattle.laws.specs.If.{if◌then◌else◌}
 use Rattle.laws.specs.Unique.{OneResult}
 use Rattle.laws.proofs.Unique.{told_apart}
 use Rattle.sampling.specs.Samples.{sample_number}

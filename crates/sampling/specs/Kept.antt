@@ -1,7 +1,6 @@
 -- What the code of a run of samples keeps beside the state: the tariffs of the minute, the lines as they were, the units of a sample; and the samples that only count.
-use Rattle.std.specs.Prelude.{◌≡◌, true, false, ◌&&◌, List, ℕ, ◌+◌, ◌%◌, ◌<◌, ltb, get_or}
+use Rattle.std.specs.Prelude.{◌≡◌, true, false, ◌&&◌, List, ℕ, ◌+◌, ◌%◌, ◌<◌, ltb, get_or, if◌then◌else◌}
 use Rattle.std.specs.Int.Bits.{bit_and, bit_xor}
-use Rattle.laws.specs.If.{if◌then◌else◌}
 use Rattle.laws.specs.Masks.{bit_at}
 use Rattle.laws.specs.Tables.{table}
 use Rattle.tariff.specs.Rules.{force_map_at}

@@ -1,7 +1,6 @@
 -- "100 samples make a second. After the hundredth is booked the clock steps; if it is then a multiple of the period's seconds, the period closes. .. A period closed by the step is
 -- whole if it began on a multiple, else short."
-use Rattle.std.specs.Prelude.{Bool, false, List, ℕ, ◌+◌, ◌*◌, ◌%◌, eqb}
-use Rattle.laws.specs.If.{if◌then◌else◌}
+use Rattle.std.specs.Prelude.{Bool, false, List, ℕ, ◌+◌, ◌*◌, ◌%◌, eqb, if◌then◌else◌}
 use Rattle.laws.specs.Tables.{table}
 use Rattle.settings.specs.declared.Config.{Config}
 use Rattle.counting.specs.Filter.{line_at}

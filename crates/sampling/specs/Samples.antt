@@ -1,6 +1,5 @@
 -- One sample, in the order of document 01's sentences, and a run of samples. "Order: .. sample 5, 6."
-use Rattle.std.specs.Prelude.{Bool, ◌&&◌, List, [], ◌∷◌, ℕ, suc, ◌+◌, leb, eqb}
-use Rattle.laws.specs.If.{if◌then◌else◌}
+use Rattle.std.specs.Prelude.{Bool, ◌&&◌, List, [], ◌∷◌, ℕ, suc, ◌+◌, leb, eqb, if◌then◌else◌}
 use Rattle.laws.specs.Answers.{Answer, given, refused, RunReply}
 use Rattle.laws.specs.Masks.{mask_of, bit_at}
 use Rattle.tariff.specs.Rules.{force_map_at}

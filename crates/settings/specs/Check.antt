@@ -1,6 +1,5 @@
 -- "4 VALUE: an entry breaks its rule; with the offset of the first such entry". The sections stand as in document 01's table.
-use Rattle.std.specs.Prelude.{Bool, true, false, List, [], ◌∷◌, ◌≡◌, ℕ, ◌+◌, ◌*◌, ◌<◌, ltb, get_or, pos}
-use Rattle.laws.specs.If.{if◌then◌else◌}
+use Rattle.std.specs.Prelude.{Bool, true, false, List, [], ◌∷◌, ◌≡◌, ℕ, ◌+◌, ◌*◌, ◌<◌, ltb, get_or, pos, if◌then◌else◌}
 use Rattle.laws.specs.Broken.{first_broken}
 use Rattle.laws.specs.Answers.{Answer, given, refused}
 use Rattle.settings.specs.Rules.{period_good, input_good, fitted_in, sum_good, coefficient_good, slot_good, window_good, week_good, season_good, holiday_good, rule_good, register_good, zero_input, zero_slot, zero_window, zero_season, zero_holiday, zero_rule, zero_register}

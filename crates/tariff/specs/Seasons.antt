@@ -1,6 +1,5 @@
 -- "A season runs from its first to its second date, both included, over New Year if the first is later; unused is never active."
-use Rattle.std.specs.Prelude.{Bool, not, ◌&&◌, ◌||◌, ℕ, ltb, leb, eqb, get_or}
-use Rattle.laws.specs.If.{if◌then◌else◌}
+use Rattle.std.specs.Prelude.{Bool, not, ◌&&◌, ◌||◌, ℕ, ltb, leb, eqb, get_or, if◌then◌else◌}
 use Rattle.laws.specs.Masks.{mask_of}
 use Rattle.calendar.specs.declared.Moment.{Moment}
 use Rattle.tariff.specs.declared.Date.{Date}

@@ -1,8 +1,7 @@
 -- "A weekly rule uses the weekday's daily rule, on a holiday the holiday's one instead; 255 is inactive. The look through the holidays stops at the first that
 -- fits."
-use Rattle.std.specs.Prelude.{Bool, not, ◌&&◌, ◌||◌, List, ℕ, ◌+◌, ◌*◌, ltb, eqb, get_or}
+use Rattle.std.specs.Prelude.{Bool, not, ◌&&◌, ◌||◌, List, ℕ, ◌+◌, ◌*◌, ltb, eqb, get_or, if◌then◌else◌}
 use Rattle.std.proofs.Math.Option.{Option, some, none}
-use Rattle.laws.specs.If.{if◌then◌else◌}
 use Rattle.laws.specs.First.{first}
 use Rattle.laws.specs.Masks.{mask_of}
 use Rattle.calendar.specs.declared.Moment.{Moment}

@@ -1,11 +1,11 @@
 -- `text` and `specification` meet their contracts: the one proof of the cycle of calls.
+use Rattle.std.specs.Prelude.{if◌then◌else◌}
 use mathlib.Core.Path.{◌≡◌, refl, sym, ap, ◌∙◌}
 use mathlib.Core.Bool.{Bool, false}
 use mathlib.Core.List.{List}
 use Prim.Native.Nat.{ℕ, ◌+◌, ◌≤◌}
 use native.Mathlib.Omega.{arith}
 use lib.ListN.{length, drop, length-drop}
-use Rattle.laws.specs.If.{if◌then◌else◌}
 use Rattle.laws.proofs.If.{if_cases}
 use Rattle.display.specs.Formats.{Begun, begun, specification_in}
 use Rattle.display.specs.Fields.{read_by}

@@ -1,8 +1,8 @@
 -- `makers::only_meters` meets its contract. The loop's invariant: the limits before i are those of the list's meters.
+use Rattle.std.specs.Prelude.{if◌then◌else◌}
 use mathlib.Core.Path.{◌≡◌}
 use Prim.Native.Nat.{◌-◌, ◌≤◌}
 use lib.ListN.{get_or}
-use Rattle.laws.specs.If.{if◌then◌else◌}
 use Rattle.laws.specs.Masks.{bit_at}
 use Rattle.laws.proofs.Tables.{fill_to}
 use Rattle.makers.proofs.only_meters.Given as goal

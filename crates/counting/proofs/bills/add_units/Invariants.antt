@@ -1,8 +1,8 @@
 -- `counting::bills::add_units` meets its contract. The loop's invariant: the totals before k have the units added.
+use Rattle.std.specs.Prelude.{if◌then◌else◌}
 use mathlib.Core.Path.{◌≡◌}
 use Prim.Native.Nat.{◌+◌, ◌-◌, ◌≤◌}
 use lib.ListN.{get_or}
-use Rattle.laws.specs.If.{if◌then◌else◌}
 use Rattle.laws.specs.Masks.{bit_at}
 use Rattle.laws.proofs.Tables.{fill_to}
 use Rattle.counting.specs.Bills.{unit_at}

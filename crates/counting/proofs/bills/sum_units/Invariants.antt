@@ -1,7 +1,7 @@
 -- `counting::bills::sum_units` meets its contract. The loop's invariant: the units of the inputs before i that are named, each of 32 bits.
+use Rattle.std.specs.Prelude.{if◌then◌else◌}
 use mathlib.Core.Path.{◌≡◌}
 use Prim.Native.Nat.{◌-◌, ◌*◌, ◌≤◌}
-use Rattle.laws.specs.If.{if◌then◌else◌}
 use Rattle.laws.specs.Masks.{bit_at}
 use Rattle.laws.specs.Total.{total}
 use Rattle.counting.specs.Bills.{unit_at}

@@ -1,11 +1,10 @@
 -- `hall::line_end` is safe and ends: the place is from the start to the length.
 use Prim.Native.Nat.{◌≤◌, ◌-◌}
-use borrow.Author.Rules.{rules}
 use lib.ListN.{length}
 use Rattle.hall.proofs.line_end.Given as goal
 
 abbrev pub invariant-loop-i : goal.invariant-loop-i
-invariant-loop-i l =  (l.from ≤ l.i) × (l.i ≤ length l.bytes)
+invariant-loop-i l = (l.from ≤ l.i) × (l.i ≤ length l.bytes)
 
 abbrev pub decreases-loop-i : goal.decreases-loop-i
-decreases-loop-i l =  length l.bytes - l.i
+decreases-loop-i l = length l.bytes - l.i

@@ -1,6 +1,5 @@
 -- `image_tester::main` is safe and ends: the letters of the line stand in its text.
 use mathlib.Core.Path.{sym}
-use borrow.Author.Rules.{rules}
 use lib.Seq.{length-take-le}
 use Rattle.image.specs.Answers.{image_answer}
 use Rattle.answers.proofs.Whole.{none_cut, text_within}

@@ -1,5 +1,4 @@
 -- `bench::jobs::number_bits` is safe: a number of 32 bits has 64.
-use borrow.Author.Rules.{rules}
 use mir.Facts.{to_z-of_z, sfits_widen}
 use Rattle.bench.proofs.jobs.number_bits.Goals as goal
 

@@ -10,9 +10,9 @@ use Rattle.hall.proofs.Taken.{lent_le}
 use Rattle.hall.proofs.calls.take_piece.Goals as goal
 
 pub slice_bounds-samples-end : goal.slice_bounds-samples-end
-slice_bounds-samples-end c = sym (length-take-le _ _ (slice_bounds-all-end c.before))
+slice_bounds-samples-end c = sym (length-take-le _ _ (search rules))
 
 pub returns : goal.returns
 returns c =
     rw (ap (λ (r : WithBuffer (RunReply Recorder)). r.reply.taken) c.samples.ensures)
-    (le_trans (lent_le _ _ _) (le_of_eq (length-take-le _ _ (slice_bounds-all-end c.before.before.before.before.before))))
+    (le_trans (lent_le _ _ _) (le_of_eq (length-take-le _ _ (search rules))))

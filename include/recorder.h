@@ -9,7 +9,7 @@
  * - They allocate nothing, write to no memory but their own stack, keep nothing from one call to the next and read no clock. So threads may call them at
  *   the same time.
  * - The same arguments always give the same answer.
- * - They need memcpy of the C library, and nothing else.
+ * - They need nothing of the C library.
  */
 #ifndef RECORDER_H
 #define RECORDER_H

@@ -6,6 +6,8 @@ usage: python3 tools/snake_names.py [--dry] [TOP]
 It reads every .antt file below TOP/crates, collects the names that they declare with a small first letter, and writes each that has a dash or a capital in snake case, wherever the
 name stands: in .antt files, in the `ghost use` items, clauses and comments of .rt files, in must-fail edits, and in the pages (README.md, docs/). Types, modules, functions of src/,
 labels that Rattle makes (`Need-..`, `c.step.field`), and names that a file imports from a library stay as they are.
+
+It ran once, right after the kit's port.py (docs/PORT.md). It is kept to show what it did, and is not run again: the names of goals, which proofs have now, have dashes of their own.
 """
 import os
 import re

@@ -1,4 +1,4 @@
--- Laws of specs/If.antt.
+-- Laws of the choice by a test, `if b then x else y`.
 use Rattle.std.specs.Prelude.{if◌then◌else◌}
 use mathlib.Core.Path.{◌≡◌, refl}
 use mathlib.Core.Bool.{Bool, true, false}

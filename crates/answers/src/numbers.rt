@@ -1,16 +1,16 @@
 // Numbers put behind the letters of a text.
 ghost use Rattle.std.specs.Prelude.{◌≡◌};
 ghost use Rattle.answers.specs.Texts.{with_bytes};
-ghost use Rattle.laws.specs.Decimals.{digit as Decimals·digit};
+ghost use Rattle.laws.specs.Decimals.{digit};
 ghost use Rattle.laws.specs.Decimals.{decimal_of};
 ghost use Rattle.answers.specs.Numbers.{decimal_signed, two_digits, hex_of};
-ghost use Rattle.answers.specs.Numbers.{hex_digit as Numbers·hexDigit};
+ghost use Rattle.answers.specs.Numbers.{hex_digit};
 
 use crate::Text;
 use crate::texts::with_byte;
 
 fn digit(n: u64) -> u8
-    ensures { result ≡ Decimals·digit n }
+    ensures { result ≡ digit n }
 {
     48 + (n % 10) as u8
 }
@@ -47,7 +47,7 @@ pub(crate) fn with_two(text: Text, n: u64) -> Text
 
 // The last hexadecimal digit.
 fn hex_digit(n: u8) -> u8
-    ensures { result ≡ Numbers·hexDigit n }
+    ensures { result ≡ hex_digit n }
 {
     let d = n % 16;
     if d < 10 { 48 + d } else { 87 + d }

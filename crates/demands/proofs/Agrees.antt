@@ -9,7 +9,7 @@ use native.Mathlib.Nat.{zero-mul, zero-mod}
 use native.Mathlib.Omega.{arith}
 use lib.Dec.{ltb, leb, eqb}
 use lib.IntN.{ℤ}
-use lib.ListN.{length, get_or, set as setList, length-set, length-replicate, get_or-replicate}
+use lib.ListN.{length, get_or, set as set_list, length-set, length-replicate, get_or-replicate}
 use lib.Seq.{get_or-set_same, get_or-set_other}
 use borrow.Author.Tests.{ltb-true, ltb-false, leb-true, leb-false, eq-eqb, ne_eqb, eqb-true, eqb-false}
 use Rattle.laws.specs.Answers.{number_in, reply_to}
@@ -29,7 +29,7 @@ use Rattle.sampling.specs.Samples.{active_at, booking_of, booking_on, counted_of
 use Rattle.recorder.specs.Clock.{set_to, set_of, closed_bill, reset_of}
 use Rattle.recorder.specs.Meters.{renewed, kept, meter_at, stamping_of, reading_answer, stamp_as, reading_of}
 use Rattle.recorder.specs.Calls.{fresh_state}
-use Rattle.recorder.specs.History.{Call, sample, set as set-call, reading, reset, after_all}
+use Rattle.recorder.specs.History.{Call, sample, set as set_call, reading, reset, after_all}
 use Rattle.recorder.specs.declared.Setup.{Setup}
 use Rattle.counting.specs.declared.Line.{Line}
 use Rattle.counting.specs.declared.Bill.{Bill}
@@ -37,7 +37,7 @@ use Rattle.sampling.specs.declared.State.{State}
 use Rattle.calendar.proofs.Moments.{dated_or_not}
 use Rattle.counting.proofs.Lines.{passed, brings, passed_run, passed_rejected, passed_remainder}
 use Rattle.recorder.proofs.Sound.{cleared_at, config_stays}
-use Rattle.demands.specs.Account.{Entry, took, ended, cleared as cleared-entry, heard, Heard, readings_of, renews, left_by, Sample, Account, run_of, ends_run, in_range, sample_on, always, impulses_of, rejected_in, whole, in_use, books_at, feeding, amount_of, last_reading, next_sample, due_to, overfull, number_of_sample, number_of_reading, stepped, counted, with_call, account_of}
+use Rattle.demands.specs.Account.{Entry, took, ended, cleared as cleared_entry, heard, Heard, readings_of, renews, left_by, Sample, Account, run_of, ends_run, in_range, sample_on, always, impulses_of, rejected_in, whole, in_use, books_at, feeding, amount_of, last_reading, next_sample, due_to, overfull, number_of_sample, number_of_reading, stepped, counted, with_call, account_of}
 use Rattle.demands.specs.State.{bill_in, meter_in}
 use Rattle.demands.specs.Demand2.{reached, AnswersOfHistory}
 use Rattle.demands.proofs.Units.{left_over, units_step, left_step}
@@ -253,7 +253,7 @@ pub set_number_lem : (c : Config) (s : State) (seconds : ℕ) → (reply_to s (s
 unfolding set_of
 set_number_lem c s seconds = ⊎_elim (λ d. rw d.1) (λ e. rw e) (dated_or_not seconds)
 
-set_agrees : (c : Config) (s : State) (a : Account) (seconds : ℕ) → Agrees c s a → Agrees c (reply_to s (set_of c s seconds)).after (with_call c a (set-call seconds))
+set_agrees : (c : Config) (s : State) (a : Account) (seconds : ℕ) → Agrees c s a → Agrees c (reply_to s (set_of c s seconds)).after (with_call c a (set_call seconds))
 unfolding set_of set_to with_call
 set_agrees c s a seconds old =
     ⊎_elim
@@ -298,7 +298,7 @@ left_is (last ∷ earlier) second v status seq = rw (stamping_is (last ∷ earli
 -- the meters with a reading
 heard_meter : (c : Config) (s : State) (a : Account) (meter : ℕ) (v : ℤ) (status seq i : ℕ) → Agrees c s a → meter < 32 → i < 32
     → let m = meter_at s.meters meter in
-    meter_at (setList s.meters meter (record { read = true; stamp = stamp_as (stamping_of m seq) m s.clock; value = v; status = status; seq = seq })) i
+    meter_at (set_list s.meters meter (record { read = true; stamp = stamp_as (stamping_of m seq) m s.clock; value = v; status = status; seq = seq })) i
     ≡ meter_in (last_reading (heard a.time.second meter v status seq ∷ a.journal) i)
 heard_meter c s a meter v status seq i old m l =
     by_test (eqb meter i)
@@ -337,7 +337,7 @@ reading_agrees c s a meter v status seq old =
 -- A billing reset
 
 reset_bill : (c : Config) (s : State) (a : Account) (j : ℕ) → Agrees c s a → j < 16
-    → bill_at (reset_of c s).bills j ≡ bill_in c (cleared-entry a.time.second ∷ a.journal) j
+    → bill_at (reset_of c s).bills j ≡ bill_in c (cleared_entry a.time.second ∷ a.journal) j
 unfolding reset_of closed_bill bill_in amount_of
 reset_bill c s a j old l =
     table_at 16 _ j _ l
@@ -385,13 +385,13 @@ fresh_agrees c time =
 -- a call on a state, under the configuration that the start gave
 abbrev pub state_after : Config → State → Call → State
 state_after c s (sample bits) = (reply_to s (sample_of c s bits)).after
-state_after c s (set-call seconds) = (reply_to s (set_of c s seconds)).after
+state_after c s (set_call seconds) = (reply_to s (set_of c s seconds)).after
 state_after c s (reading meter v status seq) = (reading_of c s meter v status seq).after
 state_after c s reset = reset_of c s
 
 call_agrees : (c : Config) (s : State) (a : Account) (call : Call) → Agrees c s a → Agrees c (state_after c s call) (with_call c a call)
 call_agrees c s a (sample bits) = sample_agrees c s a bits
-call_agrees c s a (set-call seconds) = set_agrees c s a seconds
+call_agrees c s a (set_call seconds) = set_agrees c s a seconds
 call_agrees c s a (reading meter v status seq) = reading_agrees c s a meter v status seq
 call_agrees c s a reset = reset_agrees c s a
 
@@ -401,7 +401,7 @@ module _ (setup : Setup) (lent : ℕ) where
   pub state_after_lem : (c : Config) (time : ℕ) (earlier : List Call) (call : Call) → (reached setup lent c time (call ∷ earlier)).state ≡ state_after c (reached setup lent c time earlier).state call
   unfolding after_all
   state_after_lem c time earlier (sample bits) = ap (λ (k : Config). state_after k (reached setup lent c time earlier).state (sample bits)) (config_stays setup lent c time earlier)
-  state_after_lem c time earlier (set-call seconds) = ap (λ (k : Config). state_after k (reached setup lent c time earlier).state (set-call seconds)) (config_stays setup lent c time earlier)
+  state_after_lem c time earlier (set_call seconds) = ap (λ (k : Config). state_after k (reached setup lent c time earlier).state (set_call seconds)) (config_stays setup lent c time earlier)
   state_after_lem c time earlier (reading meter v status seq) = ap (λ (k : Config). state_after k (reached setup lent c time earlier).state (reading meter v status seq)) (config_stays setup lent c time earlier)
   state_after_lem c time earlier reset = ap (λ (k : Config). state_after k (reached setup lent c time earlier).state reset) (config_stays setup lent c time earlier)
 
@@ -423,7 +423,7 @@ module _ (setup : Setup) (lent : ℕ) where
       let s = (reached setup lent c time calls).state in
       subst (λ (k : Config). (reply_to s (sample_of k s bits)).number ≡ number_of_sample c (account_of c time calls) bits) (sym (config_stays setup lent c time calls))
       (sample_case c s (account_of c time calls) bits (agrees c time calls)).0
-  answers_of_history c time calls (set-call seconds) = set_number_lem (reached setup lent c time calls).config (reached setup lent c time calls).state seconds
+  answers_of_history c time calls (set_call seconds) = set_number_lem (reached setup lent c time calls).config (reached setup lent c time calls).state seconds
   answers_of_history c time calls (reading meter v status seq) =
       let s = (reached setup lent c time calls).state in
       subst (λ (k : Config). number_in (reading_of k s meter v status seq).answer ≡ number_of_reading c meter status seq) (sym (config_stays setup lent c time calls))

@@ -76,16 +76,16 @@ module _ (setup : Setup) (lent : ℕ) where
           rw (e, some, ne_eqb n 0 (refused_some c s bits n o e)) (refl, refl, refl)
 
   -- what is carried from sample to sample with the periods that each closes is, after a run, what its samples one by one lead to
-  pub by_samples : {A : Type 0} (with-records : A → List Record → A) → ((x : A) → with-records x [] ≡ x)
-      → ((x : A) (rs later : List Record) → with-records x (rs ++ later) ≡ with-records (with-records x rs) later)
+  pub by_samples : {A : Type 0} (put_records : A → List Record → A) → ((x : A) → put_records x [] ≡ x)
+      → ((x : A) (rs later : List Record) → put_records x (rs ++ later) ≡ put_records (put_records x rs) later)
       → (c : Config) (time : ℕ) (reaches : List Call → A)
-      → ((calls : List Call) (bits : ℕ) → with-records (reaches calls) (records_of setup (closed_by c (sample_of c (reached setup lent c time calls).state bits))) ≡ reaches (sample bits ∷ calls))
+      → ((calls : List Call) (bits : ℕ) → put_records (reaches calls) (records_of setup (closed_by c (sample_of c (reached setup lent c time calls).state bits))) ≡ reaches (sample bits ∷ calls))
       → (calls : List Call) (run : List ℕ)
-      → with-records (reaches calls) (records_of setup (closed_in c (reached setup lent c time calls).state run)) ≡ reaches (with_samples (take (taken_in c (account_of c time calls) run) run) calls)
+      → put_records (reaches calls) (records_of setup (closed_in c (reached setup lent c time calls).state run)) ≡ reaches (with_samples (take (taken_in c (account_of c time calls) run) run) calls)
   unfolding closed_in account_of
-  by_samples with-records none both c time reaches step calls [] = none (reaches calls)
-  by_samples {A} with-records none both c time reaches step calls (bits ∷ more) =
-      go (sample_of c s bits) refl (by_samples with-records none both c time reaches step (sample bits ∷ calls) more)
+  by_samples put_records none both c time reaches step calls [] = none (reaches calls)
+  by_samples {A} put_records none both c time reaches step calls (bits ∷ more) =
+      go (sample_of c s bits) refl (by_samples put_records none both c time reaches step (sample bits ∷ calls) more)
     where
       s : State
       s = (reached setup lent c time calls).state
@@ -94,18 +94,18 @@ module _ (setup : Setup) (lent : ℕ) where
       a = account_of c time calls
 
       go : (x : Answer State) → sample_of c s bits ≡ x
-          → with-records (reaches (sample bits ∷ calls)) (records_of setup (closed_in c (reached setup lent c time (sample bits ∷ calls)).state more))
+          → put_records (reaches (sample bits ∷ calls)) (records_of setup (closed_in c (reached setup lent c time (sample bits ∷ calls)).state more))
           ≡ reaches (with_samples (take (taken_in c (with_call c a (sample bits)) more) more) (sample bits ∷ calls))
-          → with-records (reaches calls) (records_of setup (closed_by c (sample_of c s bits) ++ closed_on (sample_of c s bits) (λ next. closed_in c next more)))
+          → put_records (reaches calls) (records_of setup (closed_by c (sample_of c s bits) ++ closed_on (sample_of c s bits) (λ next. closed_in c next more)))
           ≡ reaches (with_samples (take (taken_in c a (bits ∷ more)) (bits ∷ more)) calls)
       go (given later) e rest =
           let taken : number_of_sample c a bits ≡ 0 = sym (number_one c time calls bits) ∙ rw e in
           let there : later ≡ (reached setup lent c time (sample bits ∷ calls)).state = sym (rw e) ∙ after_one c time calls bits in
-          let one : with-records (reaches calls) (records_of setup (closed_by c (given later))) ≡ reaches (sample bits ∷ calls) = rw e at (step calls bits) in
+          let one : put_records (reaches calls) (records_of setup (closed_by c (given later))) ≡ reaches (sample bits ∷ calls) = rw e at (step calls bits) in
           rw (taken, e)
-          (ap (with-records (reaches calls)) (map-append (record_of setup) (closed_by c (given later)) (closed_in c later more))
+          (ap (put_records (reaches calls)) (map-append (record_of setup) (closed_by c (given later)) (closed_in c later more))
           ∙ both (reaches calls) (records_of setup (closed_by c (given later))) (records_of setup (closed_in c later more))
-          ∙ ap (λ (x : A). with-records x (records_of setup (closed_in c later more))) one
+          ∙ ap (λ (x : A). put_records x (records_of setup (closed_in c later more))) one
           ∙ rw there rest)
       go (refused n o) e rest =
           let some : number_of_sample c a bits ≡ n = sym (number_one c time calls bits) ∙ rw e in

@@ -20,7 +20,7 @@ use Rattle.counting.specs.Units.{credits_of}
 use Rattle.counting.specs.Bills.{feeds, register_at, bill_at, unit_at, sum_of, sum_at, sums_of, register_units, due_of, fills_up, with_amount, billed, booked_of}
 use Rattle.sampling.specs.Samples.{booking_of, active_at, active_lines, booking_on, put_in}
 use Rattle.sampling.specs.declared.State.{State}
-use Rattle.counting.proofs.Lines.{passed, brings, line_after as one-line-after, unit_after as one-unit-after}
+use Rattle.counting.proofs.Lines.{passed, brings, line_after as one_line_after, unit_after as one_unit_after}
 use Rattle.demands.specs.Account.{in_use, books_at, feeding}
 
 -- bit i of the mask of active lines
@@ -45,14 +45,14 @@ module _ (c : Config) (s : State) (bits : ℕ) where
   -- line i after the sample
   pub line_after : (i : ℕ) → i < 16 → line_at (booking_on c s bits).lines i ≡ passed (input_at c.inputs i) (line_at s.lines i) (active_at c.inputs bits i)
   unfolding booking_of
-  line_after i l = one-line-after c.inputs s.lines (active_lines c.inputs bits) i l ∙ rw (active_bit c.inputs bits i l)
+  line_after i l = one_line_after c.inputs s.lines (active_lines c.inputs bits) i l ∙ rw (active_bit c.inputs bits i l)
 
   -- the units that all lines bring
   abbrev units : List ℕ
   units = let stepped = stepped_of c.inputs s.lines (active_lines c.inputs bits) in (credits_of c.inputs stepped.lines stepped.impulses).units
 
   unit_after : (i : ℕ) → i < 16 → unit_at units i ≡ brought_at i
-  unit_after i l = one-unit-after c.inputs s.lines (active_lines c.inputs bits) i l ∙ rw (active_bit c.inputs bits i l)
+  unit_after i l = one_unit_after c.inputs s.lines (active_lines c.inputs bits) i l ∙ rw (active_bit c.inputs bits i l)
 
   -- what is due to register j
   abbrev pub due : ℕ → ℕ

@@ -22,12 +22,12 @@ use Rattle.counting.specs.Filter.{input_at, line_at, accepted}
 use Rattle.counting.specs.Units.{units_of, held_sum}
 use Rattle.counting.specs.Bills.{sum_at}
 use Rattle.counting.specs.Levels.{level0, level2, input_value, sum_value, function_value, slot_value, slot_values}
-use Rattle.sampling.specs.Periods.{multiple, begun_anew, cleared_lines, closed_as, state_of as stateAs, tick_of}
+use Rattle.sampling.specs.Periods.{multiple, begun_anew, cleared_lines, closed_as, state_of as state_as, tick_of}
 use Rattle.sampling.specs.Samples.{active_at, booking_on, counted_of, sample_of}
 use Rattle.recorder.specs.Clock.{set_to, set_of, reset_of}
 use Rattle.recorder.specs.Meters.{reading_answer, reading_of}
 use Rattle.recorder.specs.Calls.{fresh_state}
-use Rattle.recorder.specs.History.{Call, sample, set as set-call, reading, reset}
+use Rattle.recorder.specs.History.{Call, sample, set as set_call, reading, reset}
 use Rattle.recorder.specs.Laws.{Good}
 use Rattle.profile.specs.declared.Profile.{Profile}
 use Rattle.recorder.specs.declared.Setup.{Setup}
@@ -138,7 +138,7 @@ tick_closes c s a good both old =
     rw (both.clock, t)
     (record {
       units = cleared_units s.lines;
-      closed = rw both.first (closed_same c good a.journal s.lines old.units (stateAs c.period a.time.first) (a.time.second + 1));
+      closed = rw both.first (closed_same c good a.journal s.lines old.units (state_as c.period a.time.first) (a.time.second + 1));
     }))
     (λ f. rw (both.clock, f) (record { units = old.units; closed = old.closed }))
 
@@ -160,7 +160,7 @@ sample_closes c s a bits good both old free =
 
 -- The other calls
 
-set_closes : (c : Config) (s : State) (a : Account) (seconds : ℕ) → Good c → Agrees c s a → Closes c s a → Closes c (reply_to s (set_of c s seconds)).after (with_call c a (set-call seconds))
+set_closes : (c : Config) (s : State) (a : Account) (seconds : ℕ) → Good c → Agrees c s a → Closes c s a → Closes c (reply_to s (set_of c s seconds)).after (with_call c a (set_call seconds))
 unfolding set_of set_to with_call
 set_closes c s a seconds good both old =
     ⊎_elim
@@ -194,7 +194,7 @@ fresh_closes c time = record { units = λ i l. ap (λ (y : Line). y.units) (get_
 
 call_closes : (c : Config) (s : State) (a : Account) (call : Call) → Good c → Agrees c s a → Free c s → Closes c s a → Closes c (state_after c s call) (with_call c a call)
 call_closes c s a (sample bits) good both free old = sample_closes c s a bits good both old free
-call_closes c s a (set-call seconds) good both free old = set_closes c s a seconds good both old
+call_closes c s a (set_call seconds) good both free old = set_closes c s a seconds good both old
 call_closes c s a (reading meter v status seq) good both free old = reading_closes c s a meter v status seq old
 call_closes c s a reset good both free old = reset_closes c s a old
 

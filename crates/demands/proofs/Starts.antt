@@ -104,9 +104,9 @@ module _ (setup : Setup) (lent : ℕ) (b : List ℕ) (time n offset : ℕ) where
   not_accepted (given u) e = not_dated (moment_of time) e
   not_accepted (refused k o) e = refl
 
-  refused_start_lem : (start_reply setup lent b time).answer ≡ refused n offset → (start_reply setup lent b time).recorder ≡ blank_recorder
+  start_refused : (start_reply setup lent b time).answer ≡ refused n offset → (start_reply setup lent b time).recorder ≡ blank_recorder
   unfolding start_reply
-  refused_start_lem e =
+  start_refused e =
       by_test (legal_length lent)
       (λ legal.
       by_test (slots_fit setup.slots)
@@ -116,4 +116,4 @@ module _ (setup : Setup) (lent : ℕ) (b : List ℕ) (time n offset : ℕ) where
 
 pub blank_refuses : BlankRefuses
 unfolding blank_recorder
-blank_refuses = record { refused_start_lem = refused_start_lem; no_length = λ n h. let (legal, none) = h in let low = legal.0 in omega arith }
+blank_refuses = record { start_refused = start_refused; no_length = λ n h. let (legal, none) = h in let low = legal.0 in omega arith }

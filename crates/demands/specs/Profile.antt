@@ -176,7 +176,7 @@ pub record OtherLength : Type 0 where
 
 -- a refused start hands back the blank recorder, and no length is that of its start: so every call that lends it a buffer is refused with 14
 pub record BlankRefuses : Type 0 where
-  pub refused_start_lem : (setup : Setup) (lent : ℕ) (image : List ℕ) (time n offset : ℕ)
+  pub start_refused : (setup : Setup) (lent : ℕ) (image : List ℕ) (time n offset : ℕ)
       → (start_reply setup lent image time).answer ≡ refused n offset → (start_reply setup lent image time).recorder ≡ blank_recorder
   pub no_length : (n : ℕ) → AsAtStart blank_recorder.profile n → ⊥
 

@@ -86,7 +86,7 @@ number_most s =
     (if_cases (λ (x : Begun). x.bytes ≤ length s) (whole s)
     (λ t.
     let f = eqb-true (get_or s (last s 0) 0) 70 (and_left (eqb (get_or s (last s 0) 0) 70) (not (pointed s 0) || is_digit (digit s 0)) t) in
-    let in-string = inside s (last s 0) 70 (omega arith) f in
+    let in_string = inside s (last s 0) 70 (omega arith) f in
     omega arith)
     (λ t. omega arith))
 

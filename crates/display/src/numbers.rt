@@ -2,7 +2,7 @@
 ghost use Rattle.std.specs.Prelude.{◌≡◌, ◌++◌, ◌/◌, ◌^◌, ◌≤◌, length, replicate};
 ghost use Rattle.calendar.specs.Moments.{moment_of};
 ghost use Rattle.laws.specs.Answers.{given};
-ghost use Rattle.laws.specs.Decimals.{digit as Decimals·digit};
+ghost use Rattle.laws.specs.Decimals.{digit};
 ghost use Rattle.laws.specs.Decimals.{last_digits, decimal_of};
 ghost use Rattle.readout.specs.Numbers.{sign_text, pointed};
 ghost use Rattle.display.specs.Numbers.{whole_shown, fraction_shown, padding_of, number_shown, date_shown, time_shown};
@@ -14,7 +14,7 @@ use crate::screen::{Screen, put};
 use calendar::{Dated, Moment};
 
 fn digit(n: u64) -> u8
-    ensures { result ≡ Decimals·digit n }
+    ensures { result ≡ digit n }
 {
     48 + (n % 10) as u8
 }

@@ -11,7 +11,7 @@ ghost use Rattle.lines.specs.Words.{word, text_after};
 ghost use Rattle.lines.specs.Numbers.{whole_of, signed_of};
 ghost use Rattle.lines.specs.Hex.{hex_bytes};
 ghost use Rattle.lines.specs.Lines.{number32, number8, number_or, with_time, time_of, with_register, register_of, with_hex, readout_of, has_words, asked_of, command_of, asked, text_means, line_means};
-ghost use Rattle.lines.specs.Lines.{bad as Lines·bad};
+ghost use Rattle.lines.specs.Lines.{bad};
 
 use numbers::{Number, Signed};
 
@@ -239,7 +239,7 @@ fn signed_at(text: &[u8], k: usize) -> Signed
 
 // A word that is no number, or one that does not fit, or no HEX.
 fn bad(parameter: Parameter) -> Line
-    ensures { result ≡ Lines·bad parameter }
+    ensures { result ≡ bad parameter }
 {
     Line::Wrong(Mistake::Number(parameter))
 }

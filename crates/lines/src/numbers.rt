@@ -1,6 +1,6 @@
 // The numbers of a line.
 ghost use Rattle.std.specs.Prelude.{◌≡◌, ◌≤◌, pos, neg_ℤ};
-ghost use Rattle.laws.specs.Decimals.{is_digit as Decimals·isDigit};
+ghost use Rattle.laws.specs.Decimals.{is_digit};
 ghost use Rattle.lines.specs.Numbers.{no_number, whole_of, signed_of};
 
 // What a word is as a number; 0 stands beside a word that is none.
@@ -18,7 +18,7 @@ pub struct Signed {
 }
 
 fn is_digit(b: u8) -> bool
-    ensures { result ≡ Decimals·isDigit b }
+    ensures { result ≡ is_digit b }
 {
     (48 <= b) & (b <= 57)
 }

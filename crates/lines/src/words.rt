@@ -1,7 +1,7 @@
 // The words of a line.
 ghost use Rattle.std.specs.Prelude.{◌≡◌, ◌+◌, ◌≤◌, length, drop};
 ghost use Rattle.lines.specs.Words.{without_return, words, word_place, blank_at, same};
-ghost use Rattle.lines.specs.Words.{word as Words·word};
+ghost use Rattle.lines.specs.Words.{word};
 
 // A line without the carriage return that may stand at its end.
 pub(crate) fn without_return(text: &[u8]) -> &[u8]
@@ -53,7 +53,7 @@ pub(crate) fn word_start(text: &[u8], k: usize) -> usize
 
 // Word k; an empty part where there is no such word.
 pub(crate) fn word(text: &[u8], k: usize) -> &[u8]
-    ensures { result.now ≡ Words·word k text.now }
+    ensures { result.now ≡ word k text.now }
 {
     let start = word_start(text, k);
     if text.len() < start {

@@ -5,7 +5,7 @@ mod records;
 
 ghost use Rattle.std.specs.Prelude.{◌≡◌, ◌+◌, ◌<◌, min};
 ghost use Rattle.profile.specs.Room.{legal_length, as_at_start, room_of, next_place, moved_on, kept, with_record};
-ghost use Rattle.profile.specs.Room.{within as Room·within};
+ghost use Rattle.profile.specs.Room.{within};
 ghost use Rattle.profile.specs.Reading.{held_in, oldest_of, place_at, record_replied, record_reply};
 
 pub use records::{RECORD_LENGTH, Record, bits64, choose, slots_fit};
@@ -40,7 +40,7 @@ pub fn legal_length(length: usize) -> bool
 
 // A place, from the first again past the last.
 fn within(room: usize, place: usize) -> usize
-    ensures { result ≡ Room·within room place }
+    ensures { result ≡ within room place }
 {
     if place < room {
         return place;

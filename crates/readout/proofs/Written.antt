@@ -110,8 +110,8 @@ module _ (u : List ℕ) where
   apart t =
       let n = leading is_digit u in
       let f = behind_point u in
-      let with-point = eqb (get_or u n 0) 46 && ltb (n + 1) (length u) && digits f in
-      let one = ltb-true 0 n (and_left (ltb 0 n) (eqb n (length u) || with-point) t) in
+      let with_point = eqb (get_or u n 0) 46 && ltb (n + 1) (length u) && digits f in
+      let one = ltb-true 0 n (and_left (ltb 0 n) (eqb n (length u) || with_point) t) in
       let size : length (take n u) ≡ n = length-take-le n u (leading_most is_digit u) in
       by_test (eqb n (length u))
       (λ e.
@@ -120,7 +120,7 @@ module _ (u : List ℕ) where
       let none : f ≡ [] = drop_of_length-le u past in
       record { some = rw size one; fraction_digits = rw none tt; same = rw none (append-nil (take n u) ∙ take_all n u (omega arith)) })
       (λ e.
-      let p = or_right (eqb n (length u)) with-point e (and_right (ltb 0 n) (eqb n (length u) || with-point) t) in
+      let p = or_right (eqb n (length u)) with_point e (and_right (ltb 0 n) (eqb n (length u) || with_point) t) in
       let front = and_left (eqb (get_or u n 0) 46 && ltb (n + 1) (length u)) (digits f) p in
       let point = eqb-true (get_or u n 0) 46 (and_left (eqb (get_or u n 0) 46) (ltb (n + 1) (length u)) front) in
       let more = ltb-true (n + 1) (length u) (and_right (eqb (get_or u n 0) 46) (ltb (n + 1) (length u)) front) in

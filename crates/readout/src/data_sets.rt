@@ -3,7 +3,7 @@ ghost use Rattle.std.specs.Prelude.{◌≡◌, ◌+◌, ◌≤◌, length, drop}
 ghost use Rattle.laws.specs.Leading.{leading};
 ghost use Rattle.laws.specs.Parts.{part_of};
 ghost use Rattle.readout.specs.DataSets.{address_letter, part_letter, closes_at, ends_at, value_place};
-ghost use Rattle.readout.specs.DataSets.{between as DataSets·between};
+ghost use Rattle.readout.specs.DataSets.{between};
 ghost use Rattle.readout.specs.Answers.{place_said, value_part};
 
 // Where the value stands in a line, and how many letters it has.
@@ -22,7 +22,7 @@ fn is_letter(b: u8) -> bool
 }
 
 fn between(least: usize, most: usize, n: usize) -> bool
-    ensures { result ≡ DataSets·between least most n }
+    ensures { result ≡ between least most n }
 {
     (least <= n) & (n <= most)
 }

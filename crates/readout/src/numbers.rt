@@ -1,6 +1,6 @@
 // The whole number of a text, with a stated count of decimals.
 ghost use Rattle.std.specs.Prelude.{◌≡◌, ◌+◌, ◌*◌, ◌^◌, ◌≤◌, min, pos, neg_ℤ, true, false};
-ghost use Rattle.laws.specs.Decimals.{is_digit as Decimals·isDigit};
+ghost use Rattle.laws.specs.Decimals.{is_digit};
 ghost use Rattle.readout.specs.Numbers.{in32_bits, whole_number};
 ghost use Rattle.readout.specs.Answers.{number_said};
 ghost use Rattle.readout.specs.Held.{held, all_zeros, digits_read, size_said, held_size, fraction_size};
@@ -27,7 +27,7 @@ enum Size {
 }
 
 fn is_digit(b: u8) -> bool
-    ensures { result ≡ Decimals·isDigit b }
+    ensures { result ≡ is_digit b }
 {
     (48 <= b) & (b <= 57)
 }

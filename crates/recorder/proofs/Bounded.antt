@@ -28,7 +28,7 @@ use Rattle.sampling.specs.Samples.{booking_of, active_lines, booking_on, put_in,
 use Rattle.recorder.specs.Clock.{set_to, set_dated, set_of, reset_of}
 use Rattle.recorder.specs.Meters.{Stamping, reading_answer, after_reading}
 use Rattle.recorder.specs.Calls.{fresh_state, fresh_start}
-use Rattle.recorder.specs.History.{Call, sample, set as set-call, reading, reset, after, after_all}
+use Rattle.recorder.specs.History.{Call, sample, set as set_call, reading, reset, after, after_all}
 use Rattle.recorder.specs.Laws.{Sound, Good, Bounded, ReachedIsBounded, HoldNeverActs}
 use Rattle.counting.specs.declared.Line.{Line}
 use Rattle.sampling.specs.declared.State.{State}
@@ -218,7 +218,7 @@ after_filled : (r : Recorder) (call : Call) → Within r.config → Sound r.conf
     → Filled r.config (after r call).state (after r call).state.samples
 unfolding set_of
 after_filled r (sample bits) w h f = sample_filled r.config w r.state h f bits
-after_filled r (set-call time) w h f = dated_filled r.config w r.state time (moment_of time) f
+after_filled r (set_call time) w h f = dated_filled r.config w r.state time (moment_of time) f
 after_filled r (reading meter value status seq) w h f =
     reading_filled r.config w r.state f meter value status seq (reading_answer r.config r.state meter status seq)
 after_filled r reset w h f = reset_filled r.config w r.state f

@@ -37,13 +37,13 @@ module _ (r : Recorder) (buffer : List ℕ) (right : Bool) (is : right ≡ as_at
 
 module _ {Reply : Type 0} (r : Recorder) (buffer : List ℕ) (right : Bool) (is : right ≡ as_at_start r.profile (length buffer)) where
   -- that of the start: the records are put, and the reply has the profile after them
-  taken_lent : (refusal : Reply) (with-profile : Profile → Reply) (periods : List Period) (p : Profile) (buffer' : List ℕ) → right ≡ true
+  taken_lent : (refusal : Reply) (with_profile : Profile → Reply) (periods : List Period) (p : Profile) (buffer' : List ℕ) → right ≡ true
       → kept p buffer' ≡ with_records (kept r.profile buffer) (records_of r.setup periods)
-      → with_buffer (with-profile p) buffer' ≡ lent_to r buffer refusal (with-profile (moved_by r.profile (records_of r.setup periods))) periods
-  taken_lent refusal with-profile periods p buffer' e put =
+      → with_buffer (with_profile p) buffer' ≡ lent_to r buffer refusal (with_profile (moved_by r.profile (records_of r.setup periods))) periods
+  taken_lent refusal with_profile periods p buffer' e put =
       let whole = sym is ∙ e in
       let moved = ap (λ (k : Kept). k.profile) put ∙ moved_with r.profile buffer whole (records_of r.setup periods) in
-      rw whole (ap₂ (λ (q : Profile) (b : List ℕ). with_buffer (with-profile q) b) moved (ap (λ (k : Kept). k.buffer) put))
+      rw whole (ap₂ (λ (q : Profile) (b : List ℕ). with_buffer (with_profile q) b) moved (ap (λ (k : Kept). k.buffer) put))
 
 -- what is fixed, with a state and a profile
 abbrev with_moved : Recorder → State → Profile → Recorder

@@ -29,7 +29,7 @@ use Rattle.sampling.specs.Samples.{booking_of, active_lines, booking_on, put_in,
 use Rattle.recorder.specs.Clock.{set_to, set_dated, set_of, closed_bill, reset_of}
 use Rattle.recorder.specs.Meters.{Stamping, reading_answer, after_reading}
 use Rattle.recorder.specs.Calls.{fresh_state, fresh_start}
-use Rattle.recorder.specs.History.{Call, sample, set as set-call, reading, reset, after, after_all}
+use Rattle.recorder.specs.History.{Call, sample, set as set_call, reading, reset, after, after_all}
 use Rattle.recorder.specs.Laws.{SoundLines, SoundBills, Sound, ReachedIsSound, StartStays}
 use Rattle.counting.specs.declared.Line.{Line}
 use Rattle.counting.specs.declared.Bill.{Bill}
@@ -181,7 +181,7 @@ module _ (c : Config) (s : State) (h : Sound c s) where
 after_sound : (r : Recorder) (call : Call) → Sound r.config r.state → Sound r.config (after r call).state
 unfolding set_of
 after_sound r (sample bits) h = sample_sound r.config r.state h bits
-after_sound r (set-call time) h = dated_sound r.config r.state h time (moment_of time)
+after_sound r (set_call time) h = dated_sound r.config r.state h time (moment_of time)
 after_sound r (reading meter value status seq) h =
     reading_sound r.config r.state h meter value status seq (reading_answer r.config r.state meter status seq)
 after_sound r reset h = reset_sound r.config r.state h
@@ -192,7 +192,7 @@ Stays x y = (x.config ≡ y.config) × (x.setup ≡ y.setup) × (x.profile.lengt
 
 after_stays : (r : Recorder) (call : Call) → Stays (after r call) r
 after_stays r (sample bits) = (refl, refl, same_length r.profile (records_of r.setup (closed_by r.config (sample_of r.config r.state bits))))
-after_stays r (set-call time) = (refl, refl, same_length r.profile (records_of r.setup (closed_by_set (set_of r.config r.state time))))
+after_stays r (set_call time) = (refl, refl, same_length r.profile (records_of r.setup (closed_by_set (set_of r.config r.state time))))
 after_stays r (reading meter value status seq) = (refl, refl, refl)
 after_stays r reset = (refl, refl, refl)
 

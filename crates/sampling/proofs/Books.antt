@@ -113,15 +113,15 @@ not_both false true = refl
 not_both false false = refl
 
 module _ (c : Config) (clock : ℕ) (lines : List Line) (bills : List Bill) (amounts : List ℕ) (mask running ending : ℕ)
-    (runs-are : running ≡ running_lines lines) (end-are : ending ≡ bit_xor running (bit_and running mask)) where
+    (runs_are : running ≡ running_lines lines) (ends_are : ending ≡ bit_xor running (bit_and running mask)) where
   -- a line with a run
   running_bit : (i : ℕ) → i < 16 → bit_at running i ≡ ltb 0 (line_at lines i).run
   unfolding running_lines
-  running_bit i l = ap (λ m. bit_at m i) runs-are ∙ (bit_at_lem 16 _ i ∙ rw (lt-ltb i 16 l))
+  running_bit i l = ap (λ m. bit_at m i) runs_are ∙ (bit_at_lem 16 _ i ∙ rw (lt-ltb i 16 l))
 
   -- a line whose run ends
   ending_bit : Ending lines mask ending
-  ending_bit i l = rw (end-are, bit_xor_lem running (bit_and running mask) i, bit_and_lem running mask i, running_bit i l) (not_both (ltb 0 (line_at lines i).run) (bit_at mask i))
+  ending_bit i l = rw (ends_are, bit_xor_lem running (bit_and running mask) i, bit_and_lem running mask i, running_bit i l) (not_both (ltb 0 (line_at lines i).run) (bit_at mask i))
 
   module _ (units : List ℕ) (fed : ℕ) (brings : units ≡ (settled_of c.inputs lines ending).units) (in_force_lem : fed ≡ fed_at_clock c clock) where
     -- whether a sample would fill a register
@@ -147,16 +147,16 @@ module _ (c : Config) (clock : ℕ) (lines : List Line) (bills : List Bill) (amo
         (λ i. record { full = sym full i; lines = advanced_lines (settled_of c.inputs lines ending).lines mask; bills = sym booked i })
 
   -- what a sample that fills no register leaves before the runs go on: the lines, the amounts and the tariffs
-  pub record Left (left : List Line) (open-amounts : List ℕ) (tariffs : Tariffs) : Type 0 where
-    pub books : record { full = false; lines = advanced_lines left mask; bills = with_amounts bills open-amounts } ≡ booking_of c clock lines (with_amounts bills amounts) mask
+  pub record Left (left : List Line) (open_amounts : List ℕ) (tariffs : Tariffs) : Type 0 where
+    pub books : record { full = false; lines = advanced_lines left mask; bills = with_amounts bills open_amounts } ≡ booking_of c clock lines (with_amounts bills amounts) mask
     pub lines_sixteen : length left ≡ 16
-    pub amounts_sixteen : length open-amounts ≡ 16
+    pub amounts_sixteen : length open_amounts ≡ 16
     pub in_force_lem : InForce c clock tariffs
 
   -- where no run ends
-  pub unended : (left : List Line) (open-amounts : List ℕ) (tariffs known : Tariffs) → ending ≡ 0 → length lines ≡ 16 → length amounts ≡ 16 → InForce c clock known
-      → left ≡ lines → open-amounts ≡ amounts → tariffs ≡ known → Left left open-amounts tariffs
-  unended left open-amounts tariffs known none size sizes force l a t =
+  pub unended : (left : List Line) (open_amounts : List ℕ) (tariffs known : Tariffs) → ending ≡ 0 → length lines ≡ 16 → length amounts ≡ 16 → InForce c clock known
+      → left ≡ lines → open_amounts ≡ amounts → tariffs ≡ known → Left left open_amounts tariffs
+  unended left open_amounts tariffs known none size sizes force l a t =
       let units = (settled_of c.inputs lines ending).units in
       let nothing : (i : ℕ) → i < 16 → unit_at units i ≡ 0 = rw none (none_brought c.inputs lines) in
       let fed = fed_at_clock c clock in
@@ -166,11 +166,11 @@ module _ (c : Config) (clock : ℕ) (lines : List Line) (bills : List Bill) (amo
       rw (l, a, t) (record { books = rw kept at (whole_booking units fed refl refl lines settles empty); lines_sixteen = size; amounts_sixteen = sizes; in_force_lem = force })
 
   -- where some end, and no register is full
-  pub ended : (left : List Line) (open-amounts units : List ℕ) (tariffs : Tariffs) → left ≡ (settled_of c.inputs lines ending).lines → units ≡ (settled_of c.inputs lines ending).units
+  pub ended : (left : List Line) (open_amounts units : List ℕ) (tariffs : Tariffs) → left ≡ (settled_of c.inputs lines ending).lines → units ≡ (settled_of c.inputs lines ending).units
       → tariffs.fed ≡ fed_at_clock c clock → some_full c.registers amounts tariffs.fed (sums_of c.sums units) ≡ false
-      → open-amounts ≡ amounts_booked c.registers amounts tariffs.fed (sums_of c.sums units) → Left left open-amounts tariffs
+      → open_amounts ≡ amounts_booked c.registers amounts tariffs.fed (sums_of c.sums units) → Left left open_amounts tariffs
   unfolding settled_of amounts_booked
-  ended left open-amounts units tariffs settles brings force none books =
+  ended left open_amounts units tariffs settles brings force none books =
       record {
         books = rw (books, none) (rw none at (whole_booking units tariffs.fed brings force left settles none));
         lines_sixteen = rw settles (length_table 16 _);

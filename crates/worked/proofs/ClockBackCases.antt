@@ -117,7 +117,7 @@ clock_back_cases setup lent =
       cases = cases_hold;
       history =
           record {
-            at_noon_lem = fleet last_heard;
+            heard_at_noon = fleet last_heard;
             that_hour = λ run few. fleet (with_samples run set_back) ∙ none_awake run few;
             marked = set_back_marked setup lent;
             read_again = λ run few. fleet (reading 1 (pos 9) 0 3 ∷ with_samples run set_back) ∙ read_then run few 3 refl ∙ again _ (early run few);

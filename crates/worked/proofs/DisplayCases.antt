@@ -54,5 +54,5 @@ module _ (setup : Setup) (lent : ℕ) where
             each_so (PageShown (display_with 169_200 (read_by_account two_makers account))) (PageShown (display_reply (reached setup lent two_makers start calls)))
             (λ p h. by_account (in_two p.first p.second) p.arguments (replicate 32 0) ∙ h) pages (refl, (refl, (refl, (refl, (refl, tt)))));
         no_meter = by_account (letters "%F") (82 ∷ 4 ∷ 1 ∷ []) (replicate 32 0);
-        no_bill_lem = by_account (letters "%F") (202 ∷ 8 ∷ 1 ∷ []) (replicate 32 0);
+        no_such_bill = by_account (letters "%F") (202 ∷ 8 ∷ 1 ∷ []) (replicate 32 0);
       }

@@ -30,7 +30,7 @@ of_four awake stale sum = record { fitted = 4; awake = awake; stale = stale; inv
 -- what group 204 counts, and a register of group 82
 pub record QuietMeters (setup : Setup) (lent : ℕ) : Type 0 where
   -- at noon the three are awake
-  pub at_noon_lem : fleet_of (reached setup lent two_makers start last_heard) ≡ of_four 3 0 (pos 23)
+  pub heard_at_noon : fleet_of (reached setup lent two_makers start last_heard) ≡ of_four 3 0 (pos 23)
   -- for that hour none of them is, whatever samples come, fewer than the 360,000 of an hour
   pub that_hour : (run : List ℕ) → length run < 360_000 → fleet_of (reached setup lent two_makers start (with_samples run set_back)) ≡ of_four 0 3 (pos 0)
   -- register 1 of group 82 shows the stamp, 168 * 256 + 192, the 7, STATUS 4 with IV and the SEQ

@@ -42,4 +42,4 @@ pub record DisplayShown (setup : Setup) (lent : ℕ) : Type 0 where
   pub all : Each (PageShown (display_reply (reached setup lent two_makers start calls))) pages
   -- meter 4 is not fitted, and bill register 8 is not in use
   pub no_meter : display_reply (reached setup lent two_makers start calls) (letters "%F") (82 ∷ 4 ∷ 1 ∷ []) (replicate 32 0) ≡ refusal 22 (replicate 32 0)
-  pub no_bill_lem : display_reply (reached setup lent two_makers start calls) (letters "%F") (202 ∷ 8 ∷ 1 ∷ []) (replicate 32 0) ≡ refusal 22 (replicate 32 0)
+  pub no_such_bill : display_reply (reached setup lent two_makers start calls) (letters "%F") (202 ∷ 8 ∷ 1 ∷ []) (replicate 32 0) ≡ refusal 22 (replicate 32 0)

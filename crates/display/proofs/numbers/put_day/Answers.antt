@@ -10,12 +10,12 @@ pub returns : goal.returns
 unfolding puts_of
 returns c =
     let month = c.before in
-    let month-digits = month.before in
-    let day = month-digits.before in
+    let month_digits = month.before in
+    let day = month_digits.before in
     let digits = day.before in
     let a = digits.args in
     let s = a.screen in
     let m = a.m in
-    rw (c.put_last-3.ensures, month.put-month.ensures, month-digits.put_last-2.ensures, day.put-day.ensures, digits.put_last.ensures)
+    rw (c.put_last-3.ensures, month.put-month.ensures, month_digits.put_last-2.ensures, day.put-day.ensures, digits.put_last.ensures)
     (sym (puts_split s (last_digits 2 m.day) (46 ∷ last_digits 2 m.month ++ (46 ∷ last_digits 4 m.year))
     ∙ puts_split _ (last_digits 2 m.month) (46 ∷ last_digits 4 m.year)))

@@ -20,7 +20,7 @@ use Rattle.lines.specs.declared.Parameter.{Parameter}
 use Rattle.lines.specs.declared.Parameter.TheVariants as parameter
 use Rattle.calendar.specs.declared.Moment.{Moment}
 use Rattle.registers.specs.declared.fleet.Fleet.{Fleet}
-use Rattle.readout.specs.DataSets.{Place}
+use Rattle.readout.specs.declared.data_sets.Place.{Place}
 use Rattle.recorder.specs.Meters.{Stamping, renewed, kept}
 use Rattle.image.specs.Answers.{image_answer}
 use Rattle.answers.specs.declared.Text.{Text}

@@ -5,7 +5,7 @@ use Rattle.laws.specs.Letters.{letters}
 use Rattle.lines.specs.declared.Mistake.{Mistake}
 use Rattle.calendar.specs.declared.Moment.{Moment}
 use Rattle.registers.specs.declared.fleet.Fleet.{Fleet}
-use Rattle.readout.specs.DataSets.{Place}
+use Rattle.readout.specs.declared.data_sets.Place.{Place}
 use Rattle.recorder.specs.Meters.{Stamping, renewed, kept}
 use Rattle.answers.specs.Errors.{mistake_text}
 use Rattle.laws.specs.Decimals.{decimal_of}

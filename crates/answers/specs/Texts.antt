@@ -1,5 +1,5 @@
 -- Texts of at most 256 letters, as the code has them: letter after letter, with zeros behind them.
-use Rattle.std.specs.Prelude.{List, [], ◌∷◌, ℕ, ◌+◌, ◌-◌, ltb, eqb, replicate, set, if◌then◌else◌}
+use Rattle.std.specs.Prelude.{List, [], ◌∷◌, ℕ, ◌+◌, ltb, replicate, set, if◌then◌else◌}
 use Rattle.answers.specs.declared.Text.{Text}
 
 -- no letter
@@ -18,11 +18,3 @@ with_bytes t (b ∷ rest) = with_bytes (with_byte t b) rest
 -- the text of letters
 abbrev pub as_text : List ℕ → Text
 as_text l = with_bytes blank_text l
-
--- row k of a table, counted from 0: each row stands on a line, and 10 between two of them
-unfoldable pub row_at : ℕ → List ℕ → List ℕ
-row_at k [] = []
-row_at k (b ∷ rest) =
-    let row = row_at k rest in
-    let later = row_at (k - 1) rest in
-    if eqb b 10 then (if eqb k 0 then [] else later) else if eqb k 0 then b ∷ row else row

@@ -1,12 +1,17 @@
 // The jobs. What a round needs is made before the first, and what it gives is printed after the last.
+use crate::numbers::Number;
 use crate::report::{write_number, write_registers};
-use calendar::{Dated, Moment};
-use image::{IMAGE_LENGTH, ImageAnswer};
-use makers::MakerAnswer;
-use readout::NumberAnswer;
-use recorder::{MakerList, RecordAnswer, Recorder, SampleAnswer, SetAnswer, Setup};
-use registers::RegisterAnswer;
+use image::IMAGE_LENGTH;
+use recorder::{MakerList, Recorder, Setup};
 use std::io;
+
+// What the input has: an image, samples, and the line of a data set.
+#[derive(Clone, Copy)]
+pub(crate) struct Data {
+    pub image: [u8; IMAGE_LENGTH],
+    pub bits: [u16; 1000],
+    pub line: [u8; 25],
+}
 
 // Tuesday 01.04.1997, 00:00.
 const START: u32 = 859852800;
@@ -26,19 +31,15 @@ fn mixed(sum: u64, number: u64) -> u64 {
 
 // Every second one is negative.
 fn value_of(meter: u8) -> i32 {
-    if meter % 2 == 0 {
-        meter as i32
-    } else {
-        !(meter as i32)
-    }
+    let value = i32::from(meter);
+    if meter % 2 == 0 { value } else { !value }
 }
 
 // A reading of every meter that is fitted, with each STATUS and each SEQ.
 fn with_readings(recorder: Recorder) -> Recorder {
     let mut now = recorder;
     for i in 0..32u8 {
-        let read = now.reading(i, value_of(i), i % 8, i);
-        now = read.recorder;
+        now = now.reading(i, value_of(i), i % 8, i).recorder;
     }
     now
 }
@@ -49,18 +50,7 @@ fn started(image: [u8; IMAGE_LENGTH], buffer: &[u8]) -> Recorder {
         slots: [0, 1, 2, 3, 4, 5, 6, 7],
         lists: [EVEN; 3],
     };
-    let start = Recorder::start(&image, START, setup, buffer);
-    let recorder = start.recorder;
-    with_readings(recorder)
-}
-
-fn refusal(answer: SampleAnswer) -> u64 {
-    match answer {
-        SampleAnswer::Taken => 0,
-        SampleAnswer::ProfileBuffer => 14,
-        SampleAnswer::ClockEnd => 5,
-        SampleAnswer::Full => 6,
-    }
+    with_readings(Recorder::start(&image, START, setup, buffer).recorder)
 }
 
 // All samples in one call, and then again. The check sum is of the refusals.
@@ -73,11 +63,10 @@ fn samples(
 ) -> io::Result<()> {
     let mut now = recorder;
     let mut sum: u64 = 0;
-    for i in 0..rounds {
+    for _ in 0..rounds {
         let run = now.samples(&bits, buffer);
         now = run.recorder;
-        let answer = run.answer;
-        sum = mixed(sum, refusal(answer));
+        sum = mixed(sum, run.answer.number());
     }
     write_number(rt, sum)?;
     write_registers(rt, now)
@@ -93,26 +82,15 @@ fn singles(
 ) -> io::Result<()> {
     let mut now = recorder;
     let mut sum: u64 = 0;
-    for i in 0..rounds {
-        for k in 0..1000usize {
-            let sampled = now.sample(bits[k], buffer);
+    for _ in 0..rounds {
+        for sample in &bits {
+            let sampled = now.sample(*sample, buffer);
             now = sampled.recorder;
-            let answer = sampled.answer;
-            sum = mixed(sum, refusal(answer));
+            sum = mixed(sum, sampled.answer.number());
         }
     }
     write_number(rt, sum)?;
     write_registers(rt, now)
-}
-
-fn image_number(answer: ImageAnswer) -> u64 {
-    match answer {
-        ImageAnswer::Accepted => 0,
-        ImageAnswer::Length => 1,
-        ImageAnswer::Mark => 2,
-        ImageAnswer::Version => 3,
-        ImageAnswer::Value(offset) => offset as u64,
-    }
 }
 
 // The image with another age limit each time, which breaks no rule.
@@ -121,30 +99,16 @@ fn images(rt: &impl Print, image: [u8; IMAGE_LENGTH], rounds: u32) -> io::Result
     let mut sum: u64 = 0;
     for i in 0..(rounds as usize) {
         bytes[198 + i % 64] = (i % 256) as u8;
-        sum = mixed(sum, image_number(image::check_image(&bytes)));
+        sum = mixed(sum, image::check_image(&bytes).number());
     }
     write_number(rt, sum)
-}
-
-fn given(answer: RegisterAnswer) -> u64 {
-    match answer {
-        RegisterAnswer::Given(n) => n as u64,
-        RegisterAnswer::NoGroup => 100,
-        RegisterAnswer::NoRegister => 101,
-        RegisterAnswer::NotFitted => 102,
-        RegisterAnswer::NoRoom => 103,
-    }
-}
-
-fn wide(byte: u8) -> u64 {
-    byte as u64
 }
 
 // One register: how many bytes were given, and the first of them.
 fn read(recorder: Recorder, group: u32, register: u32) -> u64 {
     let mut bytes = [0u8; 13];
     let answer = registers::read_register(recorder, group, register, &mut bytes);
-    mixed(given(answer), wide(bytes[0]))
+    mixed(answer.number(), u64::from(bytes[0]))
 }
 
 // One register of each group.
@@ -168,18 +132,11 @@ fn reads(rt: &impl Print, recorder: Recorder, rounds: u32) -> io::Result<()> {
     write_number(rt, sum)
 }
 
-fn own_given(answer: MakerAnswer) -> u64 {
-    match answer {
-        MakerAnswer::NoMaker => 104,
-        MakerAnswer::Asked(register) => given(register),
-    }
-}
-
 // One register that a maker asks for.
 fn own(recorder: Recorder, group: u32, register: u32) -> u64 {
     let mut bytes = [0u8; 13];
     let answer = makers::read_own(recorder, 1, group, register, &mut bytes);
-    mixed(own_given(answer), wide(bytes[0]))
+    mixed(answer.number(), u64::from(bytes[0]))
 }
 
 // One register of each group that asks the list, by turns on it and off it, and the fleet of its meters.
@@ -199,43 +156,18 @@ fn own_reads(rt: &impl Print, recorder: Recorder, rounds: u32) -> io::Result<()>
     write_number(rt, sum)
 }
 
-fn packed(m: Moment) -> u64 {
-    (m.year as u64)
-        + (m.month as u64) * 0x1_0000
-        + (m.day as u64) * 0x100_0000
-        + (m.weekday as u64) * 0x1_0000_0000
-        + (m.hour as u64) * 0x100_0000_0000
-        + (m.minute as u64) * 0x1_0000_0000_0000
-        + (m.second as u64) * 0x100_0000_0000_0000
-}
-
-fn moment_number(dated: Dated) -> u64 {
-    match dated {
-        Dated::On(m) => packed(m),
-        Dated::NoDate => 0,
-    }
-}
-
 // Seconds from the whole range of the clock, far from one another.
 fn spread(i: u32) -> u32 {
-    ((i as u64) * 2654435761 % 4294967296) as u32
+    i.wrapping_mul(2654435761)
 }
 
 fn moments(rt: &impl Print, rounds: u32) -> io::Result<()> {
     let mut sum: u64 = 0;
     for i in 0..rounds {
-        let number = moment_number(calendar::moment_of(spread(i)));
+        let number = calendar::moment_of(spread(i)).number();
         sum = mixed(mixed(sum, number), number / 4294967296);
     }
     write_number(rt, sum)
-}
-
-fn set_number(answer: SetAnswer) -> u64 {
-    match answer {
-        SetAnswer::Set => 0,
-        SetAnswer::ProfileBuffer => 14,
-        SetAnswer::NoDate => 9,
-    }
 }
 
 // A buffer that is full and more: 1,000 periods, each with ten samples and closed by a clock set.
@@ -243,21 +175,16 @@ fn filled(recorder: Recorder, bits: [u16; 1000], buffer: &mut [u8]) -> Recorder 
     let mut now = recorder;
     for i in 0..1000u32 {
         let from = (i % 100 * 10) as usize;
-        let to = from + 10;
-        let run = now.samples(&bits[from..to], buffer);
-        now = run.recorder;
-        let set = now.set_clock(spread(i), buffer);
-        now = set.recorder;
+        now = now.samples(&bits[from..from + 10], buffer).recorder;
+        now = now.set_clock(spread(i), buffer).recorder;
     }
     now
 }
 
 fn bytes_sum(sum: u64, bytes: &[u8]) -> u64 {
-    let mut next = sum;
-    for i in 0..bytes.len() {
-        next = mixed(next, wide(bytes[i]));
-    }
-    next
+    bytes
+        .iter()
+        .fold(sum, |sum, byte| mixed(sum, u64::from(*byte)))
 }
 
 // A period is closed by a clock set, and its record put. The check sum is of the refusals, and then of the whole buffer.
@@ -267,19 +194,9 @@ fn closes(rt: &impl Print, recorder: Recorder, rounds: u32, buffer: &mut [u8]) -
     for i in 0..rounds {
         let set = now.set_clock(spread(i), buffer);
         now = set.recorder;
-        let answer = set.answer;
-        sum = mixed(sum, set_number(answer));
+        sum = mixed(sum, set.answer.number());
     }
     write_number(rt, bytes_sum(sum, buffer))
-}
-
-fn record_number(answer: RecordAnswer) -> u64 {
-    match answer {
-        RecordAnswer::Given => 69,
-        RecordAnswer::ProfileBuffer => 14,
-        RecordAnswer::NoRecord => 15,
-        RecordAnswer::NoRoom => 13,
-    }
 }
 
 // One record of the 949 that are held, and another byte of it each time.
@@ -287,7 +204,7 @@ fn record(recorder: Recorder, i: u32, buffer: &[u8]) -> u64 {
     let mut bytes = [0u8; 69];
     let answer = recorder.read_record(i % 949, buffer, &mut bytes);
     let k = (i % 69) as usize;
-    mixed(record_number(answer), wide(bytes[k]))
+    mixed(answer.map(|()| 69usize).number(), u64::from(bytes[k]))
 }
 
 fn records(rt: &impl Print, recorder: Recorder, rounds: u32, buffer: &[u8]) -> io::Result<()> {
@@ -298,21 +215,18 @@ fn records(rt: &impl Print, recorder: Recorder, rounds: u32, buffer: &[u8]) -> i
     write_number(rt, sum)
 }
 
-// Two's complement; of 64 bits the lower half is mixed.
-fn number_bits(number: i32) -> u64 {
-    profile::bits64(number as i64)
-}
-
-// The number of a data set's value, and how long the value is; of a refusal its number, and 0.
+// The number of a data set's value in two's complement, and how long the value is; of a refusal its number, and 0.
 fn data_set(sum: u64, line: &[u8]) -> u64 {
     let text = readout::value_text(line);
-    if text.len() == 0 {
+    if text.is_empty() {
         return mixed(mixed(sum, 17), 0);
     }
     match readout::whole_number(text, 3) {
-        NumberAnswer::Is(number) => mixed(mixed(sum, number_bits(number)), text.len() as u64),
-        NumberAnswer::NotANumber => mixed(mixed(sum, 18), 0),
-        NumberAnswer::DoesNotFit => mixed(mixed(sum, 19), 0),
+        Ok(number) => {
+            let bits = i64::from(number).cast_unsigned();
+            mixed(mixed(sum, bits), text.len() as u64)
+        }
+        Err(error) => mixed(mixed(sum, error.number()), 0),
     }
 }
 
@@ -327,30 +241,21 @@ fn data_sets(rt: &impl Print, line: [u8; 25], rounds: u32) -> io::Result<()> {
     write_number(rt, sum)
 }
 
-pub(crate) fn run(
-    rt: &impl Print,
-    letter: u8,
-    image: [u8; IMAGE_LENGTH],
-    bits: [u16; 1000],
-    line: [u8; 25],
-    rounds: u32,
-) -> io::Result<()> {
+// A recorder whose bills are reset after the samples.
+fn reset(recorder: Recorder, bits: [u16; 1000], buffer: &mut [u8]) -> Recorder {
+    recorder.samples(&bits, buffer).recorder.reset_bills()
+}
+
+pub(crate) fn run(rt: &impl Print, letter: u8, data: Data, rounds: u32) -> io::Result<()> {
     let mut buffer = [0u8; 65536];
-    let recorder = started(image, &buffer);
+    let recorder = started(data.image, &buffer);
+    let bits = data.bits;
     match letter {
         b's' => samples(rt, recorder, bits, rounds, &mut buffer),
         b'o' => singles(rt, recorder, bits, rounds, &mut buffer),
-        b'i' => images(rt, image, rounds),
-        b'r' => {
-            let run = recorder.samples(&bits, &mut buffer);
-            let reset = run.recorder;
-            reads(rt, reset.reset_bills(), rounds)
-        }
-        b'm' => {
-            let run = recorder.samples(&bits, &mut buffer);
-            let reset = run.recorder;
-            own_reads(rt, reset.reset_bills(), rounds)
-        }
+        b'i' => images(rt, data.image, rounds),
+        b'r' => reads(rt, reset(recorder, bits, &mut buffer), rounds),
+        b'm' => own_reads(rt, reset(recorder, bits, &mut buffer), rounds),
         b'c' => moments(rt, rounds),
         b'p' => {
             let full = filled(recorder, bits, &mut buffer);
@@ -360,7 +265,7 @@ pub(crate) fn run(
             let full = filled(recorder, bits, &mut buffer);
             records(rt, full, rounds, &buffer)
         }
-        b'd' => data_sets(rt, line, rounds),
+        b'd' => data_sets(rt, data.line, rounds),
         _ => Ok(()),
     }
 }

@@ -3,39 +3,25 @@
 #![tactic(auto)]
 
 mod jobs;
+mod numbers;
 mod report;
 
-ghost use Rattle.std.specs.Prelude.{◌≤◌, length};
-
 use image::IMAGE_LENGTH;
+use jobs::Data;
 use std::env::{Env, FillError};
-use std::io;
 use std::io::Read;
+use std::{array, io};
 
 // The samples of these bytes.
 fn samples_of(bytes: [u8; 2000]) -> [u16; 1000] {
-    let mut bits = [0u16; 1000];
-    for i in 0..1000usize {
-        bits[i] = joined(bytes[2 * i], bytes[2 * i + 1]);
-    }
-    bits
-}
-
-fn joined(low: u8, high: u8) -> u16 {
-    (low as u16) + 256 * (high as u16)
+    array::from_fn(|i| u16::from_le_bytes([bytes[2 * i], bytes[2 * i + 1]]))
 }
 
 // A number past 32 bits is cut to them.
-fn with_digit(number: u32, byte: u8) -> u32 {
-    (((number as u64) * 10 + ((byte % 16) as u64)) % 4294967296) as u32
-}
-
 fn number_of(digits: &[u8]) -> u32 {
-    let mut number: u32 = 0;
-    for i in 0..digits.len() {
-        number = with_digit(number, digits[i]);
-    }
-    number
+    digits.iter().fold(0u32, |number, digit| {
+        number.wrapping_mul(10).wrapping_add(u32::from(digit % 16))
+    })
 }
 
 fn rounds(rt: &impl Env) -> u32 {
@@ -44,33 +30,20 @@ fn rounds(rt: &impl Env) -> u32 {
     number_of(&word[..n])
 }
 
-fn run(
-    rt: &impl Print,
-    letters: &[u8],
-    image: [u8; IMAGE_LENGTH],
-    bits: [u16; 1000],
-    line: [u8; 25],
-    rounds: u32,
-) -> io::Result<()> {
-    for i in 0..letters.len() {
-        jobs::run(rt, letters[i], image, bits, line, rounds)?;
+// What input lacks is zeros.
+fn data(rt: &impl Input) -> Data {
+    let mut reader = rt.reader();
+    let mut image = [0u8; IMAGE_LENGTH];
+    let mut bytes = [0u8; 2000];
+    let mut line = [0u8; 25];
+    let _ = reader.read_exact(&mut image);
+    let _ = reader.read_exact(&mut bytes);
+    let _ = reader.read_exact(&mut line);
+    Data {
+        image,
+        bits: samples_of(bytes),
+        line,
     }
-    Ok(())
-}
-
-// Reads until the buffer is full, the input ends or a read fails, and hands back how many bytes it put at the start.
-fn read_full(mut input: impl Read + Drop, buffer: &mut [u8]) -> usize
-    ensures { result ≤ length buffer.new }
-{
-    let mut done = 0;
-    while done < buffer.len() {
-        let n = input.read(&mut buffer[done..]).unwrap_or(0);
-        if n == 0 {
-            return done;
-        }
-        done += n;
-    }
-    done
 }
 
 // Whether the program was given an argument of this number.
@@ -82,20 +55,12 @@ fn main(rt: HostRuntime) -> io::Result<()> {
     if !is_given(&rt, 2) || is_given(&rt, 3) {
         return rt.write_all(b"usage: bench JOBS ROUNDS < DATA\n");
     }
-    let mut image = [0u8; IMAGE_LENGTH];
-    let mut bytes = [0u8; 2000];
-    read_full(rt.reader(), &mut image);
-    let mut line = [0u8; 25];
-    read_full(rt.reader(), &mut bytes);
-    read_full(rt.reader(), &mut line);
+    let data = data(&rt);
+    let rounds = rounds(&rt);
     let mut letters = [0u8; 4096];
     let n = rt.arg(1, &mut letters).unwrap_or(0);
-    run(
-        &rt,
-        &letters[..n],
-        image,
-        samples_of(bytes),
-        line,
-        rounds(&rt),
-    )
+    for letter in &letters[..n] {
+        jobs::run(&rt, *letter, data, rounds)?;
+    }
+    Ok(())
 }

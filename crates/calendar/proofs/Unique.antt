@@ -1,9 +1,9 @@
 -- No second result fits the contract of a public function of the calendar.
 use mathlib.Core.Path.{◌≡◌, sym, ◌∙◌}
+use Rattle.std.specs.Prelude.{Option, Some, None}
 use Rattle.laws.specs.Unique.{OneResult}
 use Rattle.calendar.specs.Moments.{dated_said}
-use Rattle.calendar.specs.declared.Dated.{Dated}
-use Rattle.calendar.specs.declared.Dated.TheVariants.{On, NoDate}
+use Rattle.calendar.specs.declared.Moment.{Moment}
 use Rattle.calendar.proofs.is_leap.Reads as is_leap_reads
 use Rattle.calendar.proofs.month_length.Reads as month_length_reads
 use Rattle.calendar.proofs.day_exists.Reads as day_exists_reads
@@ -11,11 +11,11 @@ use Rattle.calendar.proofs.exists_in_some_year.Reads as exists_in_some_year_read
 use Rattle.calendar.proofs.moment_of.Reads as moment_of_reads
 
 -- document 01's number and values tell all answers apart
-pub said_apart : (x y : Dated) → dated_said x ≡ dated_said y → x ≡ y
-said_apart (On m) (On n) e = cc
-said_apart (On m) NoDate e = cc
-said_apart NoDate (On n) e = cc
-said_apart NoDate NoDate e = cc
+pub said_apart : (x y : Option Moment) → dated_said x ≡ dated_said y → x ≡ y
+said_apart (Some m) (Some n) e = cc
+said_apart (Some m) None e = cc
+said_apart None (Some n) e = cc
+said_apart None None e = cc
 
 pub is_leap : OneResult is_leap_reads.Post
 is_leap κs a x y e f p q = p ∙ sym q

@@ -1,13 +1,11 @@
 -- "The clock counts seconds from 1.1.1970 00:00": the moment of a second, and the answer to a second.
-use Rattle.std.specs.Prelude.{◌≡◌, true, ℕ, ◌+◌, ◌-◌, ◌*◌, ◌/◌, ◌%◌, ◌<◌, ◌≤◌, ltb, if◌then◌else◌}
+use Rattle.std.specs.Prelude.{◌≡◌, true, ℕ, ◌+◌, ◌-◌, ◌*◌, ◌/◌, ◌%◌, ◌<◌, ◌≤◌, ltb, if◌then◌else◌, Option, Some, None}
 use Rattle.laws.specs.Total.{total}
 use Rattle.laws.specs.Spans.{span}
 use Rattle.laws.specs.Answers.{Answer, given, refused}
 use Rattle.calendar.specs.Dates.{day_exists, month_length, year_length, day_number, weekday_of}
 use Rattle.calendar.specs.declared.Moment.{Moment}
 use Rattle.calendar.specs.declared.YearDay.{YearDay}
-use Rattle.calendar.specs.declared.Dated.{Dated}
-use Rattle.calendar.specs.declared.Dated.TheVariants.{On, NoDate}
 
 -- a date of the clock's years exists
 pub record DateExists (y m d : ℕ) : Type 0 where
@@ -54,9 +52,9 @@ moment_of t =
     if ltb year 2107 then given (moment_at t year month (at.left - total month (month_length year) + 1)) else refused 9 0
 
 -- what the code's answer says, with document 01's number
-abbrev pub dated_said : Dated → Answer Moment
-dated_said (On m) = given m
-dated_said NoDate = refused 9 0
+abbrev pub dated_said : Option Moment → Answer Moment
+dated_said (Some m) = given m
+dated_said None = refused 9 0
 
 -- another second of the same minute
 abbrev pub at_second : Moment → ℕ → Moment

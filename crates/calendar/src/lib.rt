@@ -17,12 +17,6 @@ pub struct Moment {
     pub second: u8,
 }
 
-#[derive(Clone, Copy)]
-pub enum Dated {
-    On(Moment),
-    NoDate,
-}
-
 // The whole years from 1970 to a day, and the days of its own year before it.
 #[derive(Clone, Copy)]
 struct YearDay {
@@ -76,7 +70,7 @@ fn year_day(day: u32) -> YearDay
 {
     let years = ((day + day / 47847) * 4 + 2) / 1461;
     YearDay {
-        years: years,
+        years,
         left: day + years / 131 - (years * 1461 + 1) / 4,
     }
 }
@@ -86,9 +80,9 @@ fn moment_at(seconds: u32, year: u16, month: u8, day: u8) -> Moment
     ensures { result ≡ moment_at seconds year month day }
 {
     Moment {
-        year: year,
-        month: month,
-        day: day,
+        year,
+        month,
+        day,
         weekday: ((seconds / 86400 + 3) % 7) as u8,
         hour: (seconds / 3600 % 24) as u8,
         minute: (seconds / 60 % 60) as u8,
@@ -97,7 +91,7 @@ fn moment_at(seconds: u32, year: u16, month: u8, day: u8) -> Moment
 }
 
 // The moment of a second counted from 1.1.1970 00:00: the year by arithmetic, the month by a loop over the month lengths.
-pub fn moment_of(seconds: u32) -> Dated
+pub fn moment_of(seconds: u32) -> Option<Moment>
     ensures { dated_said result ≡ moment_of seconds }
 {
     let at = year_day(seconds / 86400);
@@ -106,9 +100,9 @@ pub fn moment_of(seconds: u32) -> Dated
     for month in 1u8..=12 {
         let length = month_length(year, month) as u32;
         if left < length {
-            return Dated::On(moment_at(seconds, year, month, (left + 1) as u8));
+            return Some(moment_at(seconds, year, month, (left + 1) as u8));
         }
         left -= length;
     }
-    Dated::NoDate
+    None
 }

@@ -16,6 +16,7 @@ pub struct Line {
 }
 
 // One bill register: the open amount, and the last closed one with its time.
+// `reset` is no `Option` around the two: `bill_shown` (demands/specs/Shown.antt) and `bill_in` (State.antt) name the four fields.
 #[derive(Clone, Copy)]
 pub struct Bill {
     pub amount: u32,

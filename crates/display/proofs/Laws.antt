@@ -39,12 +39,12 @@ preceded_twice a b (refused n offset) = refl
 
 -- what stands behind something that is shown is shown
 preceded_given : (a : List Mark) (later : Answer (List Mark)) (marks : List Mark) → preceded a later ≡ given marks → (rest : List Mark) × (later ≡ given rest) × (marks ≡ a ++ rest)
-preceded_given a (given later) marks e = (later, refl, sym (ap (the marks) e))
-preceded_given a (refused n offset) marks e = absurd (true≢false (ap is_given_lem (sym e)))
+preceded_given a (given later) marks e = (later, refl, cc)
+preceded_given a (refused n offset) marks e = absurd cc
 
 -- and what stands behind something that is refused is refused
 preceded_refused : (a : List Mark) (later : Answer (List Mark)) (n offset : ℕ) → preceded a later ≡ refused n offset → later ≡ refused n offset
-preceded_refused a (given later) n offset e = absurd (true≢false (ap is_given_lem e))
+preceded_refused a (given later) n offset e = absurd cc
 preceded_refused a (refused m other) n offset e = e
 
 preceded_none : (later : Answer (List Mark)) → later ≡ preceded [] later
@@ -63,7 +63,7 @@ module _ (clock : ℕ) (read : ℕ → ℕ → Answer (List ℕ)) where
       → shown_by clock read arguments parts ≡ given marks
       → shown_by clock read arguments (parts ++ later) ≡ preceded marks (shown_by clock read (drop (3 * numbers_in parts) arguments) later)
   unfolding shown_by
-  shown arguments [] later marks e = preceded_none (shown_by clock read arguments later) ∙ ap (λ (m : List Mark). preceded m (shown_by clock read arguments later)) (ap (the marks) e)
+  shown arguments [] later marks e = preceded_none (shown_by clock read arguments later) ∙ ap (λ (m : List Mark). preceded m (shown_by clock read arguments later)) {x = []} cc
   shown arguments (letter b ∷ parts) later marks e =
       behind_text (character b ∷ []) (shown_by clock read arguments parts) _ (shown_by clock read (drop (3 * numbers_in parts) arguments) later) marks (λ rest f. shown arguments parts later rest f) e
   shown arguments (line_break ∷ parts) later marks e =
@@ -81,8 +81,8 @@ module _ (clock : ℕ) (read : ℕ → ℕ → Answer (List ℕ)) where
       (behind_text (characters (number_shown form v)) (shown_by clock read (drop 3 arguments) parts) (shown_by clock read (drop 3 arguments) (parts ++ later))
       (shown_by clock read (drop (3 * suc (numbers_in parts)) arguments) later) marks
       (λ rest f. shown (drop 3 arguments) parts later rest f ∙ ap (λ (l : List ℕ). preceded rest (shown_by clock read l later)) rest_of) (rw g at e)))
-      (λ n offset g. absurd (true≢false (sym (ap is_given_lem (rw g at e)))))
-  shown arguments (bad_format ∷ parts) later marks e = absurd (true≢false (sym (ap is_given_lem e)))
+      (λ n offset g. absurd (cc (rw g at e)))
+  shown arguments (bad_format ∷ parts) later marks e = absurd cc
 
   -- the first refusal stays
   stays : (a : List Mark) (first both : Answer (List Mark)) (n offset : ℕ)
@@ -92,7 +92,7 @@ module _ (clock : ℕ) (read : ℕ → ℕ → Answer (List ℕ)) where
   first_refusal : (arguments : List ℕ) (parts later : List FormatPart) (n offset : ℕ)
       → shown_by clock read arguments parts ≡ refused n offset → shown_by clock read arguments (parts ++ later) ≡ refused n offset
   unfolding shown_by
-  first_refusal arguments [] later n offset e = absurd (true≢false (ap is_given_lem e))
+  first_refusal arguments [] later n offset e = absurd cc
   first_refusal arguments (letter b ∷ parts) later n offset e =
       stays (character b ∷ []) (shown_by clock read arguments parts) (shown_by clock read arguments (parts ++ later)) n offset (first_refusal arguments parts later n offset) e
   first_refusal arguments (line_break ∷ parts) later n offset e =
@@ -113,9 +113,9 @@ module _ (clock : ℕ) (read : ℕ → ℕ → Answer (List ℕ)) where
   -- three bytes are the same with more behind them
   same_argument : (arguments more : List ℕ) (v : Value) → argument_of read arguments ≡ given v → (argument_of read (arguments ++ more) ≡ given v) × (drop 3 (arguments ++ more) ≡ drop 3 arguments ++ more)
   unfolding argument_of
-  same_argument [] more v e = absurd (true≢false (sym (ap is_given_lem e)))
-  same_argument (a ∷ []) more v e = absurd (true≢false (sym (ap is_given_lem e)))
-  same_argument (a ∷ b ∷ []) more v e = absurd (true≢false (sym (ap is_given_lem e)))
+  same_argument [] more v e = absurd cc
+  same_argument (a ∷ []) more v e = absurd cc
+  same_argument (a ∷ b ∷ []) more v e = absurd cc
   same_argument (a ∷ b ∷ c ∷ rest) more v e =
       (rw (le-ltb (length (a ∷ b ∷ c ∷ rest ++ more)) 3 (omega arith)) (rw (le-ltb (length (a ∷ b ∷ c ∷ rest)) 3 (omega arith)) at e), refl)
 
@@ -137,8 +137,8 @@ module _ (clock : ℕ) (read : ℕ → ℕ → Answer (List ℕ)) where
       let s = preceded_given (characters (number_shown form v)) (shown_by clock read (drop 3 arguments) parts) marks (rw g at e) in
       let t = same_argument arguments more v g in
       rw (t.0, t.1, spare (drop 3 arguments) more parts s.0 s.1) (ap given (sym s.2)))
-      (λ n offset g. absurd (true≢false (sym (ap is_given_lem (rw g at e)))))
-  spare arguments more (bad_format ∷ parts) marks e = absurd (true≢false (sym (ap is_given_lem e)))
+      (λ n offset g. absurd (cc (rw g at e)))
+  spare arguments more (bad_format ∷ parts) marks e = absurd cc
 
 pub arguments_in_order : ArgumentsInOrder
 arguments_in_order = record { shown = shown; refusals = first_refusal; spare = spare }
@@ -208,7 +208,7 @@ only_two_lines =
 
 -- what a reply says, and what it leaves
 leaves : (shown : Answer (List Mark)) (buffer : List ℕ) (n offset : ℕ) → (displayed shown buffer).answer ≡ refused n offset → (displayed shown buffer).buffer ≡ buffer
-leaves (given marks) buffer n offset e = absurd (true≢false (ap is_given_lem e))
+leaves (given marks) buffer n offset e = absurd cc
 leaves (refused m other) buffer n offset e = refl
 
 pub refused_display : RefusedDisplay
@@ -221,11 +221,11 @@ pub shown_first : ShownFirst
 unfolding display_with
 shown_first clock read format arguments buffer n e =
     by_test (ltb (length buffer) 32)
-    (λ t. absurd (true≢false (sym (ap is_given_lem (rw t at e)))))
+    (λ t. absurd (cc (rw t at e)))
     (λ t.
     by_answer (shown_by clock read arguments (meaning format))
     (λ marks g. (
-      sym (ap (the n) (rw (t, g) at e)),
+      cc (rw (t, g) at e),
       record { marks = marks; all = g; room = ltb-false (length buffer) 32 t; after = rw (t, g) refl },
     ))
-    (λ m offset g. absurd (true≢false (sym (ap is_given_lem (rw (t, g) at e))))))
+    (λ m offset g. absurd (cc (rw (t, g) at e))))

@@ -129,7 +129,7 @@ unfolding argument_of
 three_left read arguments used v e =
     let left = length-drop used arguments in
     by_test (ltb (length (drop used arguments)) 3)
-    (λ t. absurd (true≢false (ap is_given_lem (rw t at e))))
+    (λ t. absurd (cc (rw t at e)))
     (λ t. let l = ltb-false (length (drop used arguments)) 3 t in omega arith)
 
 -- the parts behind a specification
@@ -171,11 +171,11 @@ module _ (r : Recorder) (l : List ℕ) (i used : ℕ) (arguments : List ℕ) (s 
 -- The reply, by what the text step comes to on a blank screen
 
 given_cells : (shown : Answer (List Mark)) (cells buffer : List ℕ) → given cells ≡ cells_of blank_screen shown → register_read 32 cells buffer ≡ displayed shown buffer
-given_cells (given marks) cells buffer e = ap (λ (x : List ℕ). register_read 32 x buffer) (ap (the cells) e ∙ two_lines_lem marks)
-given_cells (refused n offset) cells buffer e = absurd (true≢false (ap is_given_lem e))
+given_cells (given marks) cells buffer e = ap (λ (x : List ℕ). register_read 32 x buffer) (cc e ∙ two_lines_lem marks)
+given_cells (refused n offset) cells buffer e = absurd cc
 
 refused_cells : (shown : Answer (List Mark)) (n : ℕ) (buffer : List ℕ) → refused n 0 ≡ cells_of blank_screen shown → refusal n buffer ≡ displayed shown buffer
-refused_cells (given marks) n buffer e = absurd (true≢false (ap is_given_lem (sym e)))
+refused_cells (given marks) n buffer e = absurd cc
 refused_cells (refused m offset) n buffer e = ap (λ (x : ℕ). refusal x buffer) (ap number_in e)
 
 module _ (r : Recorder) (format arguments buffer : List ℕ) where

@@ -22,8 +22,9 @@ use Rattle.laws.proofs.Tests.{by_test, and_left, and_right}
 use Rattle.laws.proofs.Total.{total_more, total_cong, total_grows, total_first}
 use Rattle.recorder.specs.declared.Recorder.{Recorder}
 use Rattle.registers.specs.Registers.{Group, groups, look_up, group_of, RegisterReply, register_said, replied, register_reply}
-use Rattle.registers.specs.declared.RegisterAnswer.{RegisterAnswer}
-use Rattle.registers.specs.declared.RegisterAnswer.TheVariants.{Given, NoGroup, NoRegister, NotFitted, NoRoom}
+use Rattle.registers.specs.declared.RegisterError.{RegisterError}
+use Rattle.registers.specs.declared.RegisterError.TheVariants.{NoGroup, NoRegister, NotFitted, NoRoom}
+use Rattle.std.specs.Prelude.{Result, Ok, Err}
 use Rattle.registers.proofs.Groups.{is_given_lem, the, each_found}
 use Rattle.registers.proofs.Laws.{held_long, given_first}
 use Rattle.display.specs.Fields.{field_bytes, is_signed, start_of, signed_value, field_given, field_of, bytes_given, read_by}
@@ -32,10 +33,10 @@ use Rattle.display.specs.Laws.{one_after_another, FieldsInOrder}
 -- the line that is found for a number is that of the number
 found_number : (gs : List Group) (n : ℕ) (g : Group) → look_up gs n ≡ given g → n ≡ g.number
 unfolding look_up
-found_number [] n g e = absurd (true≢false (ap is_given_lem (sym e)))
+found_number [] n g e = absurd cc
 found_number (l ∷ gs) n g e =
     by_test (eqb n l.number)
-    (λ t. let same : l ≡ g = ap (the l) (rw t at e) in eqb-true n l.number t ∙ ap (λ (x : Group). x.number) same)
+    (λ t. let same : l ≡ g = cc (rw t at e) in eqb-true n l.number t ∙ ap (λ (x : Group). x.number) same)
     (λ f. found_number gs n g (rw f at e))
 
 -- the fields of a group's registers
@@ -121,7 +122,7 @@ module _ (r : Recorder) (group register : ℕ) (buffer : List ℕ) (m : ℕ) (e 
       let first = given_first r group register buffer m e in
       let held : length (g.holds r register) ≡ m = rw is at first.0 in
       record { line = g; is = is; long = sym (held_long group g is r register) ∙ held })
-      (λ n offset is. absurd (true≢false (sym (ap is_given_lem (rw is at e)))))
+      (λ n offset is. absurd (cc (rw is at e)))
 
   field_within : (k : ℕ) → k < 6 → start_of group k + widths group k ≤ m
   field_within k low =
@@ -136,13 +137,13 @@ module _ (r : Recorder) (group register : ℕ) (buffer : List ℕ) (m : ℕ) (e 
   given_room = (given_first r group register buffer m e).1
 
 -- where it is not, there is no field
-not_given : (x : RegisterAnswer) → ((n : ℕ) → x ≡ Given n → ⊥) → (group field : ℕ) (bytes : List ℕ)
+not_given : (x : Result ℕ RegisterError) → ((n : ℕ) → x ≡ Ok n → ⊥) → (group field : ℕ) (bytes : List ℕ)
     → field_given group field (bytes_given (register_said x) bytes) ≡ refused 22 0
-not_given (Given n) k group field bytes = absurd (k n refl)
-not_given NoGroup k group field bytes = refl
-not_given NoRegister k group field bytes = refl
-not_given NotFitted k group field bytes = refl
-not_given NoRoom k group field bytes = refl
+not_given (Ok n) k group field bytes = absurd (k n refl)
+not_given (Err NoGroup) k group field bytes = refl
+not_given (Err NoRegister) k group field bytes = refl
+not_given (Err NotFitted) k group field bytes = refl
+not_given (Err NoRoom) k group field bytes = refl
 
 -- a field past the last, and one of no bytes, is none
 no_field : (group field m : ℕ) (bytes : List ℕ) → widths group field ≡ 0 → field_given group field (given (take m bytes)) ≡ refused 22 0
@@ -155,20 +156,20 @@ a_field group field m bytes some within = rw (ne_eqb (widths group field) 0 some
 
 -- A field by what the register request answered
 
-module _ (r : Recorder) (group register : ℕ) (x : RegisterAnswer) (bytes : List ℕ) (e : replied x bytes ≡ register_reply r group register (replicate 13 0)) (field : ℕ) where
+module _ (r : Recorder) (group register : ℕ) (x : Result ℕ RegisterError) (bytes : List ℕ) (e : replied x bytes ≡ register_reply r group register (replicate 13 0)) (field : ℕ) where
   read_as : read_by r group register ≡ bytes_given (register_said x) bytes
   unfolding read_by
   read_as = ap (λ (y : RegisterReply). bytes_given y.answer y.buffer) (sym e)
 
-  pub field_refused : ((n : ℕ) → x ≡ Given n → ⊥) → refused 22 0 ≡ field_of (read_by r) group register field
+  pub field_refused : ((n : ℕ) → x ≡ Ok n → ⊥) → refused 22 0 ≡ field_of (read_by r) group register field
   field_refused k = sym (ap (field_given group field) read_as ∙ not_given x k group field bytes)
 
-  module _ (m : ℕ) (g : x ≡ Given m) where
+  module _ (m : ℕ) (g : x ≡ Ok m) where
     was_given : (register_reply r group register (replicate 13 0)).answer ≡ given m
     was_given = sym (ap (λ (y : RegisterReply). y.answer) e) ∙ ap register_said g
 
     given_as : read_by r group register ≡ given (take m bytes)
-    given_as = read_as ∙ ap (λ (y : RegisterAnswer). bytes_given (register_said y) bytes) g
+    given_as = read_as ∙ ap (λ (y : Result ℕ RegisterError). bytes_given (register_said y) bytes) g
 
     pub field_none : widths group field ≡ 0 → refused 22 0 ≡ field_of (read_by r) group register field
     field_none none = sym (ap (field_given group field) given_as ∙ no_field group field m bytes none)

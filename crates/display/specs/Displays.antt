@@ -1,6 +1,6 @@
 -- What each part of a format string shows, the two lines, and the reply. "Two lines of sixteen characters. .. Characters past the sixteenth of a line are dropped, and lines after the second too; what
 -- isn't written is blank. .. Refusals: 13 NO ROOM first, for a buffer below 32 bytes; then in string order 21 FORMAT for a bad specification, 22 ARGUMENT when bytes are missing or name no readable field."
-use Rattle.std.specs.Prelude.{List, [], ◌∷◌, ◌++◌, map, ℕ, zero, suc, ltb, length, get_or, drop, if◌then◌else◌}
+use Rattle.std.specs.Prelude.{List, [], ◌∷◌, ◌++◌, map, ℕ, zero, suc, ltb, length, get_or, drop, if◌then◌else◌, Result, Ok, Err}
 use Rattle.laws.specs.Answers.{Answer, given, refused}
 use Rattle.laws.specs.Tables.{table}
 use Rattle.calendar.specs.Moments.{moment_of}
@@ -9,8 +9,8 @@ use Rattle.registers.specs.Registers.{RegisterReply, refusal, register_read}
 use Rattle.display.specs.Formats.{FormatPart, letter, line_break, the_date, the_time, number, bad_format, meaning}
 use Rattle.display.specs.Fields.{argument_of, read_by}
 use Rattle.display.specs.Numbers.{date_shown, time_shown, number_shown}
-use Rattle.display.specs.declared.DisplayAnswer.{DisplayAnswer}
-use Rattle.display.specs.declared.DisplayAnswer.TheVariants.{Shown, NoRoom, Format, Argument}
+use Rattle.display.specs.declared.DisplayError.{DisplayError}
+use Rattle.display.specs.declared.DisplayError.TheVariants.{NoRoom, Format, Argument}
 use Rattle.display.specs.declared.fields.Value.{Value}
 use Rattle.display.specs.declared.formats.Form.{Form}
 
@@ -74,12 +74,12 @@ abbrev pub display_reply : Recorder → List ℕ → List ℕ → List ℕ → R
 display_reply r format arguments buffer = display_with r.state.clock (read_by r) format arguments buffer
 
 -- what the code's answer says: 32 bytes were given, or document 02's number
-abbrev pub display_said : DisplayAnswer → Answer ℕ
-display_said Shown = given 32
-display_said NoRoom = refused 13 0
-display_said Format = refused 21 0
-display_said Argument = refused 22 0
+abbrev pub display_said : Result (Unit {0}) DisplayError → Answer ℕ
+display_said (Ok u) = given 32
+display_said (Err NoRoom) = refused 13 0
+display_said (Err Format) = refused 21 0
+display_said (Err Argument) = refused 22 0
 
 -- the code's answer with the buffer after the call
-abbrev pub display_replied : DisplayAnswer → List ℕ → RegisterReply
+abbrev pub display_replied : Result (Unit {0}) DisplayError → List ℕ → RegisterReply
 display_replied answer buffer = record { answer = display_said answer; buffer = buffer }

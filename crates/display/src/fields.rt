@@ -7,7 +7,7 @@ ghost use Rattle.display.specs.Fields.{field_bytes, is_signed, signed_value, rea
 ghost use Rattle.display.specs.Steps.{field_said};
 
 use recorder::Recorder;
-use registers::{RegisterAnswer, read_register};
+use registers::read_register;
 
 // A number with its sign apart: whether it is negative, and its size.
 #[derive(Clone, Copy)]
@@ -113,7 +113,7 @@ pub(crate) fn field_of(recorder: Recorder, group: u8, register: u8, field: u8) -
 {
     let mut register_bytes = [0u8; 13];
     let answer = read_register(recorder, group as u32, register as u32, &mut register_bytes);
-    let RegisterAnswer::Given(_) = answer else {
+    let Ok(_) = answer else {
         return FieldAnswer::Argument;
     };
     let k = field as usize;

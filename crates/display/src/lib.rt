@@ -18,10 +18,9 @@ use numbers::{put_date, put_number, put_time};
 use recorder::Recorder;
 use screen::{Screen, blank, next_line, put};
 
-// The answer to a display: the two lines, or the refusal.
-#[derive(Clone, Copy)]
-pub enum DisplayAnswer {
-    Shown,
+// The refusals of a display.
+#[derive(Clone, Copy, Debug, PartialEq, Eq)]
+pub enum DisplayError {
     NoRoom,
     Format,
     Argument,
@@ -180,21 +179,26 @@ fn give(buf: &mut [u8], cells: [u8; 32])
 }
 
 // Two lines of sixteen characters in the first 32 bytes of the buffer. A refused display changes no byte of it.
-pub fn show(recorder: Recorder, format: &[u8], arguments: &[u8], buf: &mut [u8]) -> DisplayAnswer
+pub fn show(
+    recorder: Recorder,
+    format: &[u8],
+    arguments: &[u8],
+    buf: &mut [u8],
+) -> Result<(), DisplayError>
     ensures { display_replied result buf.new ≡ display_reply recorder format.now arguments.now buf.old }
 {
     if buf.len() < 32 {
-        return DisplayAnswer::NoRoom;
+        return Err(DisplayError::NoRoom);
     }
     let page = text(recorder, format, 0, arguments, 0, blank());
     let outcome = page.outcome;
     let cells = page.cells;
     match outcome {
-        Outcome::Format => DisplayAnswer::Format,
-        Outcome::Argument => DisplayAnswer::Argument,
+        Outcome::Format => Err(DisplayError::Format),
+        Outcome::Argument => Err(DisplayError::Argument),
         Outcome::Whole => {
             give(buf, cells);
-            DisplayAnswer::Shown
+            Ok(())
         }
     }
 }

@@ -11,7 +11,7 @@ ghost use Rattle.display.specs.Steps.{puts_of};
 use crate::fields::Value;
 use crate::formats::Form;
 use crate::screen::{Screen, put};
-use calendar::{Dated, Moment};
+use calendar::Moment;
 
 fn digit(n: u64) -> u8
     ensures { result ≡ digit n }
@@ -171,8 +171,8 @@ pub(crate) fn put_date(screen: Screen, clock: u32) -> Screen
     ensures { result ≡ puts_of screen (date_shown (moment_of clock)) }
 {
     match calendar::moment_of(clock) {
-        Dated::On(m) => put_day(screen, m),
-        Dated::NoDate => screen,
+        Some(m) => put_day(screen, m),
+        None => screen,
     }
 }
 
@@ -180,7 +180,7 @@ pub(crate) fn put_time(screen: Screen, clock: u32) -> Screen
     ensures { result ≡ puts_of screen (time_shown (moment_of clock)) }
 {
     match calendar::moment_of(clock) {
-        Dated::On(m) => put_clock(screen, m),
-        Dated::NoDate => screen,
+        Some(m) => put_clock(screen, m),
+        None => screen,
     }
 }

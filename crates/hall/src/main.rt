@@ -6,176 +6,55 @@
 mod calls;
 mod output;
 
-ghost use Rattle.std.specs.Prelude.{◌≤◌, length};
-
-use calls::{Desk, STORE_LENGTH};
+use arrayvec::ArrayVec;
+use calls::Hall;
 use image::IMAGE_LENGTH;
+use output::Output;
 use std::env::{Env, FillError};
 use std::io::Read;
 use std::rt::Files;
 use std::{fs, io, str};
 
-// The recorder with its output, how many lines were read, and how much of the next one has been.
-#[derive(Clone, Copy)]
-struct Work {
-    desk: Desk,
+// The recorder with its output, how many lines were read, and what there is of the next one. A line of 257 bytes is too long already, so no more of it is kept.
+#[derive(Drop)]
+struct Work<'a, R> {
+    hall: Hall<'a>,
+    out: Output<'a, R>,
     lines: u64,
-    length: usize,
+    line: ArrayVec<u8, 257>,
 }
 
-// Puts bytes at the end of the line that is being read. A line of 257 bytes is too long already, so no more of it is kept.
-fn keep(line: &mut [u8], length: usize, bytes: &[u8]) -> usize {
-    let mut n = length;
-    for i in 0..bytes.len() {
-        if line.len() <= n {
-            return n;
+impl<'a, R: Print> Work<'a, R> {
+    // Answers the line that was read. The count stops at the largest number.
+    fn end_line(&mut self) -> io::Result<()> {
+        self.lines = self.lines.saturating_add(1);
+        self.hall
+            .answer(&mut self.out, self.lines, self.line.as_slice())?;
+        self.line.clear();
+        Ok(())
+    }
+
+    // Answers each line that ends in these bytes, and keeps what is left of the last. The answers are written before more input is waited for.
+    fn take(&mut self, bytes: &[u8]) -> io::Result<()> {
+        for byte in bytes {
+            if *byte == b'\n' {
+                self.end_line()?;
+            } else {
+                let _ = self.line.try_push(*byte);
+            }
         }
-        line[n] = bytes[i];
-        n += 1;
+        self.out.flush()
     }
-    n
-}
-
-// The place of the first line end from `from` on; the length where there is none.
-fn line_end(bytes: &[u8], from: usize) -> usize
-    requires { from ≤ length bytes.now }
-    ensures { (from ≤ result) × (result ≤ length bytes.now) }
-{
-    let mut i = from;
-    while i < bytes.len() {
-        if bytes[i] == b'\n' {
-            return i;
-        }
-        i += 1;
-    }
-    i
-}
-
-// No more of the store is lent than there is.
-fn lent_of(desk: Desk, store: &[u8]) -> usize
-    ensures { result ≤ length store.now }
-{
-    if desk.lent < store.len() {
-        return desk.lent;
-    }
-    store.len()
-}
-
-fn answer_line(
-    rt: &impl Print,
-    desk: Desk,
-    image: &[u8],
-    line: &[u8],
-    store: &mut [u8],
-    out: &mut [u8],
-    number: u64,
-    length: usize,
-) -> io::Result<Desk> {
-    if length <= line.len() {
-        let n = lent_of(desk, store);
-        return calls::answer(
-            rt,
-            desk,
-            image,
-            &mut store[..n],
-            out,
-            number,
-            &line[..length],
-        );
-    }
-    Ok(desk)
-}
-
-// The count stops at the largest number.
-fn one_more(lines: u64) -> u64 {
-    if lines < u64::MAX { lines + 1 } else { lines }
-}
-
-// Answers each line that ends in these bytes, and keeps what is left of the last.
-fn take_bytes(
-    rt: &impl Print,
-    work: Work,
-    image: &[u8],
-    line: &mut [u8],
-    store: &mut [u8],
-    out: &mut [u8],
-    bytes: &[u8],
-) -> io::Result<Work> {
-    let mut desk = work.desk;
-    let mut lines = work.lines;
-    let mut kept = work.length;
-    let mut i = 0;
-    while i < bytes.len() {
-        let end = line_end(bytes, i);
-        kept = keep(line, kept, &bytes[i..end]);
-        if bytes.len() <= end {
-            return Ok(Work {
-                desk,
-                lines,
-                length: kept,
-            });
-        }
-        i = end + 1;
-        lines = one_more(lines);
-        desk = answer_line(rt, desk, image, line, store, out, lines, kept)?;
-        kept = 0;
-    }
-    Ok(Work {
-        desk,
-        lines,
-        length: kept,
-    })
-}
-
-// Writes the answers, before more input is waited for.
-fn flush(rt: &impl Print, work: Work, out: &[u8]) -> io::Result<Work> {
-    let mut desk = work.desk;
-    output::flush(rt, out, desk.at)?;
-    desk.at = 0;
-    Ok(Work {
-        desk,
-        lines: work.lines,
-        length: work.length,
-    })
-}
-
-// A last line may have no end.
-fn last_line(
-    rt: &impl Print,
-    work: Work,
-    image: &[u8],
-    line: &[u8],
-    store: &mut [u8],
-    out: &mut [u8],
-) -> io::Result<()> {
-    let length = work.length;
-    if 0 < length {
-        let desk = answer_line(
-            rt,
-            work.desk,
-            image,
-            line,
-            store,
-            out,
-            one_more(work.lines),
-            length,
-        )?;
-        return output::flush(rt, out, desk.at);
-    }
-    Ok(())
 }
 
 // A read that fails ends the input. A proved loop has to end, and nothing says that the input does: so it has a number of turns that no run uses up.
 fn run(rt: &(impl Input + Print), image: &[u8]) -> io::Result<()> {
     let mut input = rt.reader();
-    let mut line = [0u8; 257];
-    let mut store = [0u8; STORE_LENGTH];
-    let mut out = [0u8; 65536];
-    let desk = calls::first_desk();
     let mut work = Work {
-        desk,
+        hall: Hall::new(image),
+        out: Output::new(rt),
         lines: 0,
-        length: 0,
+        line: ArrayVec::new(),
     };
     for _ in 0..u64::MAX {
         let mut buffer = [0u8; 65536];
@@ -183,49 +62,32 @@ fn run(rt: &(impl Input + Print), image: &[u8]) -> io::Result<()> {
         if n == 0 {
             break;
         }
-        work = take_bytes(
-            rt,
-            work,
-            image,
-            &mut line,
-            &mut store,
-            &mut out,
-            &buffer[..n],
-        )?;
-        work = flush(rt, work, &out)?;
+        work.take(&buffer[..n])?;
     }
-    last_line(rt, work, image, &line, &mut store, &mut out)
-}
-
-// Reads until the buffer is full, the input ends or a read fails, and hands back how many bytes it put at the start.
-fn read_full(mut input: impl Read + Drop, buffer: &mut [u8]) -> usize
-    ensures { result ≤ length buffer.new }
-{
-    let mut done = 0;
-    while done < buffer.len() {
-        let n = input.read(&mut buffer[done..]).unwrap_or(0);
-        if n == 0 {
-            return done;
-        }
-        done += n;
+    // A last line may have no end.
+    if !work.line.is_empty() {
+        work.end_line()?;
     }
-    done
+    work.out.flush()
 }
 
 fn cannot_be_read(rt: &impl Print) -> io::Result<()> {
     rt.write_all(b"error: the image cannot be read\n")
 }
 
-// One byte more than an image has is read, so that a longer file is told from an image. A path that is not UTF-8 names no file here.
+// One byte more than an image has is read, so that a longer file is told from an image; a shorter one is none, whatever it has. A path that is not UTF-8 names no file here.
 fn with_image(rt: &(impl Files + Input + Print), path: &[u8]) -> io::Result<()> {
     let Ok(name) = str::from_utf8(path) else {
         return cannot_be_read(rt);
     };
-    let Ok(file) = fs::open(rt, name) else {
+    let Ok(mut file) = fs::open(rt, name) else {
         return cannot_be_read(rt);
     };
     let mut image = [0u8; IMAGE_LENGTH + 1];
-    let n = read_full(file, &mut image);
+    let n = match file.read_exact(&mut image[..IMAGE_LENGTH]) {
+        Ok(()) => IMAGE_LENGTH + file.read(&mut image[IMAGE_LENGTH..]).unwrap_or(0),
+        Err(_) => 0,
+    };
     run(rt, &image[..n])
 }
 

@@ -1,42 +1,36 @@
-// Output in large pieces: texts are put into a lent buffer, of which `at` bytes are filled, and written when it is full. Each function hands back how many are
-// filled then.
+// Output in large pieces: letters are kept, and written when there is no room for more.
 use answers::Text;
+use arrayvec::ArrayVec;
 use std::io;
 
-// Writes what has been filled.
-pub(crate) fn flush(rt: &impl Print, out: &[u8], at: usize) -> io::Result<()> {
-    if at <= out.len() {
-        return rt.write_all(&out[..at]);
-    }
-    Ok(())
+#[derive(Drop)]
+pub(crate) struct Output<'a, R> {
+    rt: &'a R,
+    kept: ArrayVec<u8, 65536>,
 }
 
-fn put_byte(rt: &impl Print, out: &mut [u8], at: usize, byte: u8) -> io::Result<usize> {
-    if at < out.len() {
-        out[at] = byte;
-        return Ok(at + 1);
-    }
-    rt.write_all(out)?;
-    if 0 < out.len() {
-        out[0] = byte;
-        return Ok(1);
-    }
-    Ok(0)
-}
-
-pub(crate) fn put_text(
-    rt: &impl Print,
-    out: &mut [u8],
-    at: usize,
-    text: Text,
-) -> io::Result<usize> {
-    let letters = text.bytes;
-    let mut next = at;
-    for i in 0..256 {
-        if text.length <= i {
-            return Ok(next);
+impl<'a, R: Print> Output<'a, R> {
+    pub(crate) fn new(rt: &'a R) -> Output<'a, R> {
+        Output {
+            rt,
+            kept: ArrayVec::new(),
         }
-        next = put_byte(rt, out, next, letters[i])?;
     }
-    Ok(next)
+
+    // Writes what is kept.
+    pub(crate) fn flush(&mut self) -> io::Result<()> {
+        self.rt.write_all(self.kept.as_slice())?;
+        self.kept.clear();
+        Ok(())
+    }
+
+    pub(crate) fn put(&mut self, text: Text) -> io::Result<()> {
+        for letter in &text.bytes[..text.length.min(256)] {
+            if self.kept.is_full() {
+                self.flush()?;
+            }
+            let _ = self.kept.try_push(*letter);
+        }
+        Ok(())
+    }
 }

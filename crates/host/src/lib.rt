@@ -5,12 +5,12 @@ ghost use Rattle.std.specs.Prelude.{◌≡◌, ◌<◌};
 ghost use Rattle.laws.specs.Answers.{given, refused};
 ghost use Rattle.calendar.specs.Moments.{moment_of};
 ghost use Rattle.image.specs.Answers.{image_answer};
-ghost use Rattle.recorder.specs.Meters.{age_number, age_of};
+ghost use Rattle.recorder.specs.Meters.{age_of};
 ghost use Rattle.host.specs.Host.{image_number, moment_number, said_yes, answer_number};
 
-use calendar::{Dated, Moment};
-use image::ImageAnswer;
-use recorder::{Age, AgeAnswer};
+use calendar::Moment;
+use image::ImageError;
+use recorder::AgeError;
 
 // The number of a refusal, and the offset that goes with it.
 fn refusal(number: u32, offset: usize) -> u32
@@ -21,15 +21,16 @@ fn refusal(number: u32, offset: usize) -> u32
 }
 
 // 0 where the image is accepted.
+#[tactic(auto, using(image::proofs::Refusals::refusal_within))]
 pub fn recorder_image_check(image: &[u8]) -> u32
     ensures { result ≡ image_number (image_answer image.now) }
 {
     match image::check_image(image) {
-        ImageAnswer::Accepted => 0,
-        ImageAnswer::Length => refusal(1, 0),
-        ImageAnswer::Mark => refusal(2, 0),
-        ImageAnswer::Version => refusal(3, 3),
-        ImageAnswer::Value(offset) => refusal(4, offset),
+        Ok(()) => 0,
+        Err(ImageError::Length) => refusal(1, 0),
+        Err(ImageError::Mark) => refusal(2, 0),
+        Err(ImageError::Version) => refusal(3, 3),
+        Err(ImageError::Value(offset)) => refusal(4, offset),
     }
 }
 
@@ -37,34 +38,17 @@ pub fn recorder_image_check(image: &[u8]) -> u32
 fn packed(m: Moment) -> u64
     ensures { result ≡ moment_number (given m) }
 {
-    (m.year as u64)
-        + (m.month as u64) * 0x1_0000
-        + (m.day as u64) * 0x100_0000
-        + (m.weekday as u64) * 0x1_0000_0000
-        + (m.hour as u64) * 0x100_0000_0000
-        + (m.minute as u64) * 0x1_0000_0000_0000
-        + (m.second as u64) * 0x100_0000_0000_0000
+    let [low, high] = m.year.to_le_bytes();
+    u64::from_le_bytes([
+        low, high, m.month, m.day, m.weekday, m.hour, m.minute, m.second,
+    ])
 }
 
 // 0 where the second has no date.
 pub fn recorder_calendar(seconds: u32) -> u64
     ensures { result ≡ moment_number (moment_of seconds) }
 {
-    match calendar::moment_of(seconds) {
-        Dated::On(m) => packed(m),
-        Dated::NoDate => 0,
-    }
-}
-
-fn class_number(age: Age) -> u32
-    ensures { result ≡ age_number age }
-{
-    match age {
-        Age::Awake => 0,
-        Age::Stale => 1,
-        Age::Invalid => 2,
-        Age::Never => 3,
-    }
+    calendar::moment_of(seconds).map_or(0, packed)
 }
 
 // The class of a meter, or the number of the refusal. `read` is 0 where the meter was never read.
@@ -72,8 +56,8 @@ pub fn recorder_age_class(limit: u32, read: u32, stamp: u32, status: u32, clock:
     ensures { result ≡ answer_number (age_of limit (said_yes read) stamp status clock) }
 {
     match recorder::age_answer(limit, read != 0, stamp, status, clock) {
-        AgeAnswer::Class(age) => class_number(age),
-        AgeAnswer::NotFitted => 8,
-        AgeAnswer::BadStatus => 10,
+        Ok(age) => age as u32,
+        Err(AgeError::NotFitted) => 8,
+        Err(AgeError::BadStatus) => 10,
     }
 }

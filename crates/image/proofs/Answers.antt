@@ -1,26 +1,41 @@
 -- The answers, test by test: what each return of the code has to show.
-use mathlib.Core.Path.{◌≡◌, refl, ◌∙◌}
-use mathlib.Core.Bool.{true, false}
-use mathlib.Core.List.{List}
-use Prim.Native.Nat.{ℕ, ◌≤◌, ◌<◌}
+use mathlib.Core.Path.{◌≡◌, refl, sym, ◌∙◌}
+use mathlib.Core.Bool.{Bool, true, false, and_assoc}
+use mathlib.Core.List.{List, [], ◌∷◌, ◌++◌}
+use Rattle.std.specs.List.{starts_with}
+use Prim.Native.Nat.{ℕ, ◌+◌, ◌*◌, ◌≤◌, ◌<◌}
 use native.Mathlib.Omega.{arith}
 use borrow.Author.Tests.{eq-eqb, ne_eqb, eqb-true, lt-ltb, le-ltb}
 use lib.Dec.{eqb}
-use lib.ListN.{length, drop}
-use lib.Seq.{sets, sets-eq}
+use lib.ListN.{length, drop, get_or}
+use Rattle.std.specs.Prelude.{Result, Err, IsErrAnd}
+use Rattle.std.proofs.lemmas.Result.{err_from_is_err_and}
 use Rattle.laws.proofs.Tests.{by_test}
-use Rattle.laws.specs.Answers.{given, refused}
+use Rattle.laws.specs.Answers.{Answer, given, refused}
 use Rattle.laws.specs.Bytes.{le}
-use Rattle.image.specs.Image.{encode, decode, Counted}
+use Rattle.laws.proofs.Bytes.{le_2}
+use Rattle.image.specs.Image.{encode, decode}
 use Rattle.settings.specs.Check.{checked}
-use Rattle.image.specs.Answers.{image_said, marked, image_answer, image_config, IsRead, refused_with, write_answer, after_write}
+use Rattle.image.specs.Answers.{image_said, marked, image_answer, or_refused, write_answer, after_write}
 use Rattle.settings.specs.declared.Config.{Config}
-use Rattle.image.specs.declared.ImageRead.{ImageRead}
-use Rattle.image.specs.declared.ImageAnswer.{ImageAnswer}
-use Rattle.image.specs.declared.ImageAnswer.TheVariants.{Accepted, Length, Mark, Version, Value}
-use Rattle.image.proofs.Stores.{length_encode}
+use Rattle.image.specs.declared.ImageError.{ImageError}
+use Rattle.image.specs.declared.ImageError.TheVariants as image
+
+-- the letters, as the code compares them
+same_letters : (b : List ℕ) → 3 ≤ length b → starts_with eqb b (75 ∷ 82 ∷ 67 ∷ []) ≡ marked b
+same_letters [] h = absurd (omega arith)
+same_letters (x ∷ []) h = absurd (omega arith)
+same_letters (x ∷ y ∷ []) h = absurd (omega arith)
+same_letters (x ∷ y ∷ z ∷ t) h = grind (arith, and_assoc)
 
 module _ (b : List ℕ) where
+  pub letters : length b ≡ 1126 → {r : Bool} → r ≡ starts_with eqb b (75 ∷ 82 ∷ 67 ∷ []) → marked b ≡ r
+  letters n e = sym (same_letters b (omega (arith, n))) ∙ sym e
+
+  -- the version, as the code reads it
+  pub version_is : {v : ℕ} → v ≡ get_or b 3 0 + get_or b 4 0 * 256 → v ≡ le 2 (drop 3 b)
+  version_is e = omega (arith, e, le_2 b 3)
+
   pub answer_length : (length b ≡ 1126 → ⊥) → image_answer b ≡ refused 1 0
   unfolding image_answer
   answer_length n = rw (ne_eqb (length b) 1126 n)
@@ -48,20 +63,6 @@ module _ (b : List ℕ) where
       let z : ◌≡◌ {A = ℕ} 0 1 = cc in
       absurd (omega arith))
 
-  -- any answer but an acceptance is a refusal, and is read
-  pub read_refused : (a : ImageAnswer) {r : ImageRead} → (a ≡ Accepted → ⊥) → image_said a ≡ image_answer b → r ≡ refused_with a → IsRead b r
-  unfolding image_config
-  read_refused Accepted n s e = absurd (n refl)
-  read_refused Length n s e = record { answer = rw e s; config = rw (e, ← s) }
-  read_refused Mark n s e = record { answer = rw e s; config = rw (e, ← s) }
-  read_refused Version n s e = record { answer = rw e s; config = rw (e, ← s) }
-  read_refused (Value offset) n s e = record { answer = rw e s; config = rw (e, ← s) }
-
-  -- an accepted image is read
-  pub read_accepted : (c : Config) → image_answer b ≡ given tt → c ≡ decode b → IsRead b (record { answer = Accepted; config = c })
-  unfolding image_config
-  read_accepted c q e = record { answer = rw q; config = rw q e }
-
 module _ (c : Config) (l : List ℕ) where
   -- an entry breaks its rule: nothing is written
   pub write_value : {k o : ℕ} → checked c ≡ refused k o → (refused k o ≡ write_answer c (length l)) × (l ≡ after_write c l)
@@ -74,11 +75,35 @@ module _ (c : Config) (l : List ℕ) where
   write_no_room e h = (rw (e, lt-ltb (length l) 1126 h), rw (e, lt-ltb (length l) 1126 h))
 
   -- the image is written, and no byte after it
-  pub write_image : checked c ≡ given tt → 1126 ≤ length l → Counted c → {l' : List ℕ} → l' ≡ sets l 0 (encode c)
+  pub write_image : checked c ≡ given tt → 1126 ≤ length l → {l' : List ℕ} → l' ≡ encode c ++ drop 1126 l
       → (given tt ≡ write_answer c (length l)) × (l' ≡ after_write c l)
   unfolding write_answer after_write
-  write_image e h n s =
-      let k = length_encode c n in (
-        rw (e, le-ltb (length l) 1126 h),
-        rw (e, le-ltb (length l) 1126 h) (s ∙ sets-eq (encode c) l 0 (omega (arith, k)) ∙ rw k),
-      )
+  write_image e h s = (rw (e, le-ltb (length l) 1126 h), rw (e, le-ltb (length l) 1126 h) s)
+
+-- what the exit of a `?` hands back: the refusal of the call, or of the check of a configuration
+pub err_is : {A E : Type 0} (r : Result A E) {e : E} → IsErrAnd r (λ x. x ≡ e) → r ≡ Err e
+err_is r h = let p = err_from_is_err_and r h in rw (p.1, p.2)
+
+module _ {A : Type 0} (x : A) where
+  -- a refusal of the check is that of what stands on it
+  pub refused_on : (a : Answer (Unit {0})) (e : ImageError) → image_said {A = Unit {0}} (Err e) ≡ a → image_said {A = A} (Err e) ≡ or_refused a x
+  refused_on a image.Length h = rw (← h)
+  refused_on a image.Mark h = rw (← h)
+  refused_on a image.Version h = rw (← h)
+  refused_on a (image.Value offset) h = rw (← h)
+
+  -- and the other way round
+  pub refused_by : (a : Answer (Unit {0})) (e : ImageError) → image_said {A = A} (Err e) ≡ or_refused a x → image_said {A = Unit {0}} (Err e) ≡ a
+  refused_by (given u) image.Length h = cc
+  refused_by (given u) image.Mark h = cc
+  refused_by (given u) image.Version h = cc
+  refused_by (given u) (image.Value offset) h = cc
+  refused_by (refused n o) image.Length h = cc
+  refused_by (refused n o) image.Mark h = cc
+  refused_by (refused n o) image.Version h = cc
+  refused_by (refused n o) (image.Value offset) h = cc
+
+  -- what is given is what was asked for, and nothing was refused
+  pub given_by : (a : Answer (Unit {0})) (y : A) → given y ≡ or_refused a x → (a ≡ given tt) × (y ≡ x)
+  given_by (given u) y h = (refl, cc)
+  given_by (refused n o) y h = cc

@@ -3,7 +3,7 @@ use mathlib.Core.Path.{◌≡◌, refl, sym}
 use mathlib.Core.List.{List, ◌++◌, append_assoc}
 use Prim.Native.Nat.{ℕ, ◌+◌, ◌≤◌}
 use native.Mathlib.Omega.{arith}
-use lib.ListN.{length, take, drop, length-append}
+use lib.ListN.{length, take, drop}
 use lib.Seq.{get_or-drop, drop-drop, take-add}
 use mir.Syntax.{w8}
 use mir.Val.{SFits}
@@ -12,6 +12,7 @@ use Rattle.laws.specs.Bytes.{Bytes, bytes_of}
 use Rattle.laws.proofs.Bytes.{length_bytes_of, le_bytes_of, bytes_of_le, bytes_of_at, take_firsts}
 use Rattle.laws.proofs.Codec.{Codec, part_after}
 use Rattle.image.specs.Entries.{input_bytes, input_of, coefficient_bytes, coefficient_of, slot_bytes, slot_of, window_bytes, window_of, date_in, season_bytes, season_of, holiday_bytes, holiday_of, rule_bytes, rule_of, register_bytes, register_in}
+use Rattle.image.specs.Widths.{input_wide, coefficient_wide, slot_wide, window_wide, season_wide, holiday_wide, rule_wide, register_wide}
 use Rattle.image.specs.Image.{TypedInput, TypedWindow, TypedHoliday}
 use Rattle.settings.specs.declared.Input.{Input}
 
@@ -62,19 +63,19 @@ input_forth run b byte h =
 
 pub input : (run : ℕ) → Codec (input_bytes run) (input_of run) (1 + run + run + 2 + 2) (TypedInput run)
 unfolding input_bytes
-input run = record { wide = λ x. simp (length-append, length_bytes_of) (omega arith); back = input_back run; forth = input_forth run }
+input run = record { wide = input_wide run; back = input_back run; forth = input_forth run }
 
 pub coefficient : Codec coefficient_bytes coefficient_of 1 (SFits w8)
 unfolding coefficient_bytes coefficient_of
 coefficient = record {
-  wide = λ x. refl;
+  wide = coefficient_wide;
   back = λ x t h. to_z-of_z h;
   forth = λ b byte h. rw (take_firsts 1 b h, of_z-to_z {w = w8} (record { fits = byte 0 }));
 }
 
 pub slot : Codec slot_bytes slot_of 2 (λ _. Unit {0})
 unfolding slot_bytes slot_of
-slot = record { wide = λ x. refl; back = λ x t h. refl; forth = λ b byte h. rw (take_firsts 2 b h) (simp get_or-drop) }
+slot = record { wide = slot_wide; back = λ x t h. refl; forth = λ b byte h. rw (take_firsts 2 b h) (simp get_or-drop) }
 
 window_forth : (b : List ℕ) → Bytes b → 4 ≤ length b → window_bytes (window_of b) ≡ take 4 b
 unfolding window_bytes window_of
@@ -83,27 +84,27 @@ window_forth b byte h = rw (bytes_of_le 2 b byte (omega arith), bytes_of_at 2 2 
 pub window : Codec window_bytes window_of 4 TypedWindow
 unfolding window_bytes window_of bytes_of
 window = record {
-  wide = λ x. refl;
+  wide = window_wide;
   back = λ x t h. rw (le_bytes_of 2 x.first (bytes_of 2 x.end ++ t) h.0, le_bytes_of 2 x.end t h.1);
   forth = window_forth;
 }
 
 pub season : Codec season_bytes season_of 4 (λ _. Unit {0})
 unfolding season_bytes season_of date_in
-season = record { wide = λ x. refl; back = λ x t h. refl; forth = λ b byte h. rw (take_firsts 4 b h) (simp (get_or-drop, drop-drop)) }
+season = record { wide = season_wide; back = λ x t h. refl; forth = λ b byte h. rw (take_firsts 4 b h) (simp (get_or-drop, drop-drop)) }
 
 pub holiday : Codec holiday_bytes holiday_of 4 TypedHoliday
 unfolding holiday_bytes holiday_of
 holiday = record {
-  wide = λ x. simp length_bytes_of;
+  wide = holiday_wide;
   back = λ x t h. rw (le_bytes_of 2 x.year t h);
   forth = λ b byte h. rw (bytes_of_at 2 2 b byte h, take-add 2 2 b, take_firsts 2 b (omega arith)) (simp get_or-drop);
 }
 
 pub rule : Codec rule_bytes rule_of 2 (λ _. Unit {0})
 unfolding rule_bytes rule_of
-rule = record { wide = λ x. refl; back = λ x t h. refl; forth = λ b byte h. rw (take_firsts 2 b h) (simp get_or-drop) }
+rule = record { wide = rule_wide; back = λ x t h. refl; forth = λ b byte h. rw (take_firsts 2 b h) (simp get_or-drop) }
 
 pub register : Codec register_bytes register_in 2 (λ _. Unit {0})
 unfolding register_bytes register_in
-register = record { wide = λ x. refl; back = λ x t h. refl; forth = λ b byte h. rw (take_firsts 2 b h) (simp get_or-drop) }
+register = record { wide = register_wide; back = λ x t h. refl; forth = λ b byte h. rw (take_firsts 2 b h) (simp get_or-drop) }

@@ -22,7 +22,7 @@ use Rattle.image.specs.Answers.{marked, image_answer, image_config}
 use Rattle.image.specs.Laws.{WrittenIsRead, ReadIsWritten, ReadIsGood, OneConfig}
 use Rattle.settings.specs.declared.Config.{Config}
 use Rattle.image.proofs.Entries.{input, coefficient, slot, window, season, holiday, rule, register}
-use Rattle.image.proofs.Stores.{length_program, length_encode}
+use Rattle.image.proofs.Lengths.{length_program, length_encode}
 use Rattle.image.proofs.Answers.{answer_checked}
 
 -- what stands from each section of the program on, with t after it

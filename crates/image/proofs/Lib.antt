@@ -1,6 +1,7 @@
--- What the proofs of this crate share: the entries as bytes, stores one after another, the answers test by test; the laws of specs/Laws.antt; that no second result fits.
+-- What the proofs of this crate share: the entries as bytes, sections read and written, the answers test by test; the laws of specs/Laws.antt; that no second result fits.
 pub mod Entries
-pub mod Stores
+pub mod Lengths
+pub mod Sections
 pub mod Answers
 pub mod Laws
 pub mod Found

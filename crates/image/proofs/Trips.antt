@@ -5,19 +5,18 @@ use Prim.Native.Nat.{ℕ}
 use native.Mathlib.Omega.{arith}
 use lib.Dec.{ltb}
 use lib.ListN.{replicate}
+use Rattle.std.specs.Prelude.{Result, Ok, Err, IsOk}
 use Rattle.laws.proofs.Tests.{by_test}
-use Rattle.laws.specs.First.{first}
 use Rattle.laws.specs.Broken.{first_broken}
 use Rattle.laws.specs.Answers.{Answer, given, refused}
 use Rattle.laws.specs.Bytes.{Bytes}
-use Rattle.image.specs.Image.{encode, blank_config, Counted, Typed}
+use Rattle.image.specs.Image.{encode, decode, Counted, Typed}
 use Rattle.settings.specs.Check.{Section, or_else, sections, first_bad, checked}
-use Rattle.image.specs.Answers.{write_said, image_answer, image_config, IsRead, refused_with, write_answer, after_write, ComesBack, or_zeros}
+use Rattle.image.specs.Answers.{write_said, image_answer, image_read, image_config, write_answer, after_write, come_back, image_copy}
 use Rattle.settings.specs.declared.Config.{Config}
-use Rattle.image.specs.declared.ImageRead.{ImageRead}
-use Rattle.image.specs.declared.ImageAnswer.TheVariants as image
-use Rattle.image.specs.declared.WriteAnswer.{WriteAnswer}
-use Rattle.image.specs.declared.WriteAnswer.TheVariants.{Written, Value, NoRoom}
+use Rattle.image.specs.declared.WriteError.{WriteError}
+use Rattle.image.specs.declared.WriteError.TheVariants.{Value, NoRoom}
+use Rattle.image.proofs.Answers.{given_by}
 use Rattle.image.proofs.Laws.{never, written_is_read, read_is_written, read_is_good}
 
 -- zeros, as many as an image has bytes
@@ -33,63 +32,55 @@ value_only (s ∷ rest) k o e =
     (λ t. let q = rw t at e in cc)
     (λ t. value_only rest k o (rw t at e))
 
--- the refusal is the check's, where there is room
-refusal_is : (a : Answer (Unit {0})) (k o : ℕ) → refused k o ≡ or_else a (given tt) → a ≡ refused k o
-refusal_is (given u) k o e = absurd (never k o e)
-refusal_is (refused n p) k o e = sym e
-
--- a configuration that breaks a rule is refused
-pub value_back : (c : Config) (o : ℕ) {r : ImageRead} → refused 4 o ≡ write_answer c 1126 → r ≡ refused_with (image.Value o) → ComesBack c r
+-- where there is room, the answer to writing is the check's
+with_room : (c : Config) → write_answer c 1126 ≡ checked c
 unfolding write_answer
-value_back c o h q =
-    let e : checked c ≡ refused 4 o = refusal_is (checked c) 4 o h in
-    record { answer = rw (q, e); config = rw (q, e) }
+with_room c = alone (checked c)
+  where
+    alone : (a : Answer (Unit {0})) → or_else a (given tt) ≡ a
+    alone (given u) = refl
+    alone (refused n offset) = refl
 
--- what is said of a writing that found room and no bad entry
-not_refused : (w : WriteAnswer) (c : Config) (k o : ℕ) → ((p : ℕ) → w ≡ Value p → ⊥) → write_said w ≡ refused k o → checked c ≡ refused k o → ⊥
-unfolding checked
-not_refused Written c k o n s e = never k o (sym s)
-not_refused (Value p) c k o n s e = n p refl
-not_refused NoRoom c k o n s e =
-    let four : k ≡ 4 = value_only (sections c) k o e in
-    let thirteen : 13 ≡ k = cc in
-    omega arith
+module _ (c : Config) where
+  -- a configuration that breaks a rule is refused
+  pub value_back : {o : ℕ} → refused 4 o ≡ write_answer c 1126 → refused 4 o ≡ come_back c
+  unfolding come_back
+  value_back h = let e = h ∙ with_room c in rw (← e)
 
-module _ (c : Config) (n : Counted c) (t : Typed c) where
-  good_back : {b : List ℕ} {r : ImageRead} → checked c ≡ given tt → b ≡ after_write c zeros → IsRead b r → ComesBack c r
-  unfolding after_write write_answer
-  good_back {b} {r} e a i =
-      let whole : b ≡ encode c = (rw e at a) ∙ append-nil (encode c) in
-      let w = written_is_read c n t e in
-      record { answer = i.answer ∙ ap image_answer whole ∙ w.0 ∙ sym e; config = rw e (i.config ∙ ap image_config whole ∙ w.1) }
-
-  by_check : (a : Answer (Unit {0})) → checked c ≡ a → {w : WriteAnswer} {b : List ℕ} {r : ImageRead} → ((p : ℕ) → w ≡ Value p → ⊥)
-      → write_said w ≡ write_answer c 1126 → b ≡ after_write c zeros → IsRead b r → ComesBack c r
-  unfolding write_answer
-  by_check (given u) e v s a i = good_back e a i
-  by_check (refused k o) e {w} v s a i = absurd (not_refused w c k o v (s ∙ rw e) e)
+  -- there is room
+  pub room : refused 13 0 ≡ write_answer c 1126 → ⊥
+  unfolding checked
+  room h = let e : ◌≡◌ {A = ℕ} 13 4 = value_only (sections c) 13 0 (sym (h ∙ with_room c)) in omega arith
 
   -- a configuration that was written comes back
-  pub comes_back : {w : WriteAnswer} {b : List ℕ} {r : ImageRead} → ((p : ℕ) → w ≡ Value p → ⊥)
-      → write_said w ≡ write_answer c 1126 → b ≡ after_write c zeros → IsRead b r → ComesBack c r
-  comes_back = by_check (checked c) refl
+  pub comes_back : Counted c → Typed c → given tt ≡ write_answer c 1126 → {b : List ℕ} → b ≡ after_write c zeros → image_read b ≡ come_back c
+  unfolding after_write image_read come_back image_config
+  comes_back n t h {b} a =
+      let e : checked c ≡ given tt = sym (h ∙ with_room c) in
+      let whole : b ≡ encode c = (rw (← h) at a) ∙ append-nil (encode c) in
+      let w = written_is_read c n t e in
+      let back = rw w.0 at w.1 in
+      rw (whole, w.0, e, back)
 
--- the blank configuration breaks the period's rule
-blank_is_bad : checked blank_config ≡ refused 4 5
-unfolding checked first_bad sections first blank_config
-blank_is_bad = refl
+module _ (b : List ℕ) {c : Config} (r : given c ≡ image_read b) where
+  read_is : (image_answer b ≡ given tt) × (c ≡ image_config b)
+  unfolding image_read image_config
+  read_is = let p = given_by (decode b) (image_answer b) c r in (p.0, p.1 ∙ rw p.0)
 
-module _ (b : List ℕ) (byte : Bytes b) where
-  copied : (a : Answer (Unit {0})) → image_answer b ≡ a → {c : Config} {l : List ℕ} → c ≡ image_config b → l ≡ after_write c zeros → l ≡ or_zeros a b
-  unfolding after_write write_answer image_config
-  copied (given u) e {c} {l} f g =
-      let good : checked c ≡ given tt = ap checked f ∙ read_is_good b e in
-      let same : encode c ≡ b = ap encode f ∙ read_is_written b byte e in
-      (rw good at g) ∙ append-nil (encode c) ∙ same
-  copied (refused k o) e {c} {l} f g =
-      let bad : checked c ≡ refused 4 5 = ap checked f ∙ rw e blank_is_bad in
-      rw bad at g
+  -- what was read breaks no rule
+  good : checked c ≡ given tt
+  good = let p = read_is in ap checked p.1 ∙ read_is_good b p.0
+
+  -- so it is written
+  pub written : (w : Result (Unit {0}) WriteError) → write_said w ≡ write_answer c 1126 → IsOk w
+  written (Ok u) s = refl
+  written (Err (Value o)) s = absurd (never 4 o (s ∙ with_room c ∙ good))
+  written (Err NoRoom) s = absurd (never 13 0 (s ∙ with_room c ∙ good))
 
   -- an accepted image comes back byte by byte
-  pub copy_is : {c : Config} {l : List ℕ} → c ≡ image_config b → l ≡ after_write c zeros → l ≡ or_zeros (image_answer b) b
-  copy_is = copied (image_answer b) refl
+  pub copy_is : Bytes b → {l : List ℕ} → l ≡ after_write c zeros → given l ≡ image_copy b
+  unfolding after_write image_copy
+  copy_is byte {l} g =
+      let p = read_is in
+      let same : encode c ≡ b = ap encode p.1 ∙ read_is_written b byte p.0 in
+      rw p.0 (ap given ((rw (with_room c, good) at g) ∙ append-nil (encode c) ∙ same))

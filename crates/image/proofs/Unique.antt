@@ -1,11 +1,12 @@
 -- No second result fits the contract of a public function of the image, and no second buffer that of writing.
-use mathlib.Core.Path.{◌≡◌, sym, ◌∙◌}
+use mathlib.Core.Path.{◌≡◌, refl, sym, ap, ◌∙◌}
+use Rattle.std.specs.Prelude.{Result, Ok, Err}
 use Rattle.laws.specs.Unique.{OneResult, OneExit}
 use Rattle.image.specs.Answers.{image_said, write_said}
-use Rattle.image.specs.declared.ImageAnswer.{ImageAnswer}
-use Rattle.image.specs.declared.ImageAnswer.TheVariants as image
-use Rattle.image.specs.declared.WriteAnswer.{WriteAnswer}
-use Rattle.image.specs.declared.WriteAnswer.TheVariants as write
+use Rattle.image.specs.declared.ImageError.{ImageError}
+use Rattle.image.specs.declared.ImageError.TheVariants as image
+use Rattle.image.specs.declared.WriteError.{WriteError}
+use Rattle.image.specs.declared.WriteError.TheVariants as write
 use Rattle.image.proofs.blank_config.Reads as blank_config_reads
 use Rattle.image.proofs.read_image.Reads as read_image_reads
 use Rattle.image.proofs.check_image.Reads as check_image_reads
@@ -13,54 +14,51 @@ use Rattle.image.proofs.write_image.Reads as write_image_reads
 use Rattle.image.proofs.write_then_read.Reads as write_then_read_reads
 use Rattle.image.proofs.read_then_write.Reads as read_then_write_reads
 
--- document 01's number and offset tell all answers to an image apart
-pub image_apart : (x y : ImageAnswer) → image_said x ≡ image_said y → x ≡ y
-image_apart image.Accepted image.Accepted e = cc
-image_apart image.Accepted image.Length e = cc
-image_apart image.Accepted image.Mark e = cc
-image_apart image.Accepted image.Version e = cc
-image_apart image.Accepted (image.Value o) e = cc
-image_apart image.Length image.Accepted e = cc
-image_apart image.Length image.Length e = cc
-image_apart image.Length image.Mark e = cc
-image_apart image.Length image.Version e = cc
-image_apart image.Length (image.Value o) e = cc
-image_apart image.Mark image.Accepted e = cc
-image_apart image.Mark image.Length e = cc
-image_apart image.Mark image.Mark e = cc
-image_apart image.Mark image.Version e = cc
-image_apart image.Mark (image.Value o) e = cc
-image_apart image.Version image.Accepted e = cc
-image_apart image.Version image.Length e = cc
-image_apart image.Version image.Mark e = cc
-image_apart image.Version image.Version e = cc
-image_apart image.Version (image.Value o) e = cc
-image_apart (image.Value o) image.Accepted e = cc
-image_apart (image.Value o) image.Length e = cc
-image_apart (image.Value o) image.Mark e = cc
-image_apart (image.Value o) image.Version e = cc
-image_apart (image.Value o) (image.Value p) e = cc
+-- document 01's number and offset tell all answers to an image apart, whatever is asked for
+pub image_apart : {A : Type 0} (x y : Result A ImageError) → image_said x ≡ image_said y → x ≡ y
+image_apart (Ok x) (Ok y) e = let g : x ≡ y = cc in ap Ok g
+image_apart (Ok x) (Err image.Length) e = cc
+image_apart (Err image.Length) (Ok y) e = cc
+image_apart (Ok x) (Err image.Mark) e = cc
+image_apart (Err image.Mark) (Ok y) e = cc
+image_apart (Ok x) (Err image.Version) e = cc
+image_apart (Err image.Version) (Ok y) e = cc
+image_apart (Ok x) (Err (image.Value o)) e = cc
+image_apart (Err (image.Value o)) (Ok y) e = cc
+image_apart (Err image.Length) (Err image.Length) e = cc
+image_apart (Err image.Length) (Err image.Mark) e = cc
+image_apart (Err image.Length) (Err image.Version) e = cc
+image_apart (Err image.Length) (Err (image.Value p)) e = cc
+image_apart (Err image.Mark) (Err image.Length) e = cc
+image_apart (Err image.Mark) (Err image.Mark) e = cc
+image_apart (Err image.Mark) (Err image.Version) e = cc
+image_apart (Err image.Mark) (Err (image.Value p)) e = cc
+image_apart (Err image.Version) (Err image.Length) e = cc
+image_apart (Err image.Version) (Err image.Mark) e = cc
+image_apart (Err image.Version) (Err image.Version) e = cc
+image_apart (Err image.Version) (Err (image.Value p)) e = cc
+image_apart (Err (image.Value o)) (Err image.Length) e = cc
+image_apart (Err (image.Value o)) (Err image.Mark) e = cc
+image_apart (Err (image.Value o)) (Err image.Version) e = cc
+image_apart (Err (image.Value o)) (Err (image.Value p)) e = cc
 
 -- and all answers to writing
-pub write_apart : (x y : WriteAnswer) → write_said x ≡ write_said y → x ≡ y
-write_apart write.Written write.Written e = cc
-write_apart write.Written (write.Value o) e = cc
-write_apart write.Written write.NoRoom e = cc
-write_apart (write.Value o) write.Written e = cc
-write_apart (write.Value o) (write.Value p) e = cc
-write_apart (write.Value o) write.NoRoom e = cc
-write_apart write.NoRoom write.Written e = cc
-write_apart write.NoRoom (write.Value o) e = cc
-write_apart write.NoRoom write.NoRoom e = cc
+pub write_apart : (x y : Result (Unit {0}) WriteError) → write_said x ≡ write_said y → x ≡ y
+write_apart (Ok u) (Ok v) e = refl
+write_apart (Ok u) (Err (write.Value o)) e = cc
+write_apart (Err (write.Value o)) (Ok u) e = cc
+write_apart (Ok u) (Err write.NoRoom) e = cc
+write_apart (Err write.NoRoom) (Ok u) e = cc
+write_apart (Err (write.Value o)) (Err (write.Value p)) e = cc
+write_apart (Err (write.Value o)) (Err write.NoRoom) e = cc
+write_apart (Err write.NoRoom) (Err (write.Value p)) e = cc
+write_apart (Err write.NoRoom) (Err write.NoRoom) e = cc
 
 pub blank_config_lem : OneResult blank_config_reads.Post
 blank_config_lem κs a x y e f p q = p ∙ sym q
 
 pub read_image : OneResult read_image_reads.Post
-read_image κs a x y e f p q =
-    let answer = image_apart x.answer y.answer (p.answer ∙ sym q.answer) in
-    let config = p.config ∙ sym q.config in
-    λ i. record { answer = answer i; config = config i }
+read_image κs a x y e f p q = image_apart x y (p ∙ sym q)
 
 pub check_image : OneResult check_image_reads.Post
 check_image κs a x y e f p q = image_apart x y (p ∙ sym q)
@@ -73,13 +71,7 @@ pub write_image_exit : OneExit (λ κs e. e.1.0.now) write_image_reads.Post
 write_image_exit κs a x y e f p q = p.1 ∙ sym q.1
 
 pub write_then_read : OneResult write_then_read_reads.Post
-write_then_read κs a x y e f p q =
-    let answer = image_apart x.answer y.answer (p.answer ∙ sym q.answer) in
-    let config = p.config ∙ sym q.config in
-    λ i. record { answer = answer i; config = config i }
+write_then_read κs a x y e f p q = image_apart x y (p ∙ sym q)
 
 pub read_then_write : OneResult read_then_write_reads.Post
-read_then_write κs a x y e f p q =
-    let answer = image_apart x.answer y.answer (p.answer ∙ sym q.answer) in
-    let image = p.image ∙ sym q.image in
-    λ i. record { answer = answer i; image = image i }
+read_then_write κs a x y e f p q = image_apart x y (p ∙ sym q)

@@ -1,31 +1,29 @@
 -- What checking, reading and writing an image answer, with document 01's numbers and offsets: "As offset 3 gives 3, 4 that of its entry, all others 0."
-use Rattle.std.specs.Prelude.{Bool, ◌&&◌, List, ◌++◌, ◌≡◌, ℕ, eqb, ltb, length, get_or, drop, replicate, if◌then◌else◌}
+use Rattle.std.specs.Prelude.{Bool, ◌&&◌, List, ◌++◌, ℕ, eqb, ltb, length, get_or, drop, if◌then◌else◌, Result, Ok, Err}
 use Rattle.laws.specs.Answers.{Answer, given, refused}
 use Rattle.laws.specs.Bytes.{le}
 use Rattle.image.specs.Image.{encode, decode, blank_config}
 use Rattle.settings.specs.Check.{checked, or_else}
 use Rattle.settings.specs.declared.Config.{Config}
-use Rattle.image.specs.declared.ImageRead.{ImageRead}
-use Rattle.image.specs.declared.ImageCopy.{ImageCopy}
 pub use Rattle.settings.specs.Verdicts.{verdict_said}
-use Rattle.image.specs.declared.ImageAnswer.{ImageAnswer}
-use Rattle.image.specs.declared.ImageAnswer.TheVariants as image
-use Rattle.image.specs.declared.WriteAnswer.{WriteAnswer}
-use Rattle.image.specs.declared.WriteAnswer.TheVariants as write
+use Rattle.image.specs.declared.ImageError.{ImageError}
+use Rattle.image.specs.declared.ImageError.TheVariants as image
+use Rattle.image.specs.declared.WriteError.{WriteError}
+use Rattle.image.specs.declared.WriteError.TheVariants as write
 
--- what the answer to an image says
-abbrev pub image_said : ImageAnswer → Answer (Unit {0})
-image_said image.Accepted = given tt
-image_said image.Length = refused 1 0
-image_said image.Mark = refused 2 0
-image_said image.Version = refused 3 3
-image_said (image.Value offset) = refused 4 offset
+-- what the answer to an image says, whatever is asked for: nothing but the check, its configuration, or its bytes
+abbrev pub image_said : {A : Type 0} → Result A ImageError → Answer A
+image_said (Ok x) = given x
+image_said (Err image.Length) = refused 1 0
+image_said (Err image.Mark) = refused 2 0
+image_said (Err image.Version) = refused 3 3
+image_said (Err (image.Value offset)) = refused 4 offset
 
 -- what the answer to writing says
-abbrev pub write_said : WriteAnswer → Answer (Unit {0})
-write_said write.Written = given tt
-write_said (write.Value offset) = refused 4 offset
-write_said write.NoRoom = refused 13 0
+abbrev pub write_said : Result (Unit {0}) WriteError → Answer (Unit {0})
+write_said (Ok u) = given tt
+write_said (Err (write.Value offset)) = refused 4 offset
+write_said (Err write.NoRoom) = refused 13 0
 
 -- the first three bytes are the letters KRC
 abbrev pub marked : List ℕ → Bool
@@ -43,18 +41,18 @@ abbrev pub or_blank : Answer (Unit {0}) → Config → Config
 or_blank (given u) c = c
 or_blank (refused n offset) c = blank_config
 
--- the configuration that reading an image hands back
+-- the configuration of an accepted image, and the blank one of any other
 unfoldable pub image_config : List ℕ → Config
 image_config b = or_blank (image_answer b) (decode b)
 
--- what reading an image hands back: the answer, and the configuration beside it
-pub record IsRead (b : List ℕ) (r : ImageRead) : Type 0 where
-  pub answer : image_said r.answer ≡ image_answer b
-  pub config : r.config ≡ image_config b
+-- what was asked for, or the refusal in its place
+abbrev pub or_refused : {A : Type 0} → Answer (Unit {0}) → A → Answer A
+or_refused (given u) x = given x
+or_refused (refused n offset) x = refused n offset
 
--- a refusal
-abbrev pub refused_with : ImageAnswer → ImageRead
-refused_with a = record { answer = a; config = blank_config }
+-- what reading an image gives: the configuration that its bytes hold, or its refusal
+unfoldable pub image_read : List ℕ → Answer Config
+image_read b = or_refused (image_answer b) (decode b)
 
 -- "writing an image gives 4, with the offset the entry would have, then 13" where the buffer is shorter than 1,126 bytes
 unfoldable pub write_answer : Config → ℕ → Answer (Unit {0})
@@ -71,16 +69,9 @@ unfoldable pub after_write : Config → List ℕ → List ℕ
 after_write c old = or_kept (write_answer c (length old)) (encode c) old
 
 -- what writing a configuration and reading it back gives: the configuration itself, or 4 VALUE
-pub record ComesBack (c : Config) (r : ImageRead) : Type 0 where
-  pub answer : image_said r.answer ≡ checked c
-  pub config : r.config ≡ or_blank (checked c) c
-
--- the bytes that were asked for, or zeros beside a refusal
-abbrev pub or_zeros : Answer (Unit {0}) → List ℕ → List ℕ
-or_zeros (given u) b = b
-or_zeros (refused n offset) b = replicate 1126 0
+unfoldable pub come_back : Config → Answer Config
+come_back c = or_refused (checked c) c
 
 -- what reading an image and writing it anew gives: the image itself, or its refusal
-pub record IsCopy (b : List ℕ) (r : ImageCopy) : Type 0 where
-  pub answer : image_said r.answer ≡ image_answer b
-  pub image : r.image ≡ or_zeros (image_answer b) b
+unfoldable pub image_copy : List ℕ → Answer (List ℕ)
+image_copy b = or_refused (image_answer b) b

@@ -1,50 +1,52 @@
 // The configuration read from an image and written to one. Its types, the rule of each entry and the check are those of crate settings, passed on.
 #![tactic(auto)]
 
-mod le;
+mod entry;
 mod read;
 mod write;
 
 ghost use Rattle.std.specs.Prelude.{◌≡◌, length};
 ghost use Rattle.image.specs.Image.{blank_program, blank_config};
-ghost use Rattle.image.specs.Answers.{image_said, write_said, refused_with, image_answer, IsRead, write_answer, after_write, ComesBack, IsCopy};
+ghost use Rattle.image.specs.Answers.{image_said, write_said, image_answer, image_read, write_answer, after_write, come_back, image_copy};
+ghost use Rattle.image.specs.declared.ImageError.{ImageError};
+ghost use Rattle.image.specs.declared.WriteError.{WriteError};
 
-pub use settings::{Config, Input, Register, Slot, Verdict, check_config};
+pub use settings::{BadValue, Config, Input, Register, Slot, check_config};
 use tariff::{Date, Holiday, Program, Rule, Season, Window};
 
 // How many bytes an image has.
 pub const IMAGE_LENGTH: usize = 1126;
 
-// What an image is answered.
-#[derive(Clone, Copy)]
-pub enum ImageAnswer {
-    Accepted,
+// Why an image is refused; an entry that breaks its rule comes with its offset.
+#[derive(Clone, Copy, Debug, PartialEq, Eq)]
+pub enum ImageError {
     Length,
     Mark,
     Version,
     Value(usize),
 }
 
-// An enum holds no array: the configuration stands beside the answer, and is blank where the image is refused.
-#[derive(Clone, Copy)]
-pub struct ImageRead {
-    pub answer: ImageAnswer,
-    pub config: Config,
+impl From<BadValue> for ImageError {
+    ghost from_gives = { λ bad e. e ≡ ImageError.Value bad.offset };
+
+    fn from(bad: BadValue) -> ImageError {
+        ImageError::Value(bad.offset)
+    }
 }
 
-// What writing an image is answered.
-#[derive(Clone, Copy)]
-pub enum WriteAnswer {
-    Written,
+// Why no image is written.
+#[derive(Clone, Copy, Debug, PartialEq, Eq)]
+pub enum WriteError {
     Value(usize),
     NoRoom,
 }
 
-// An image written anew, and zeros beside a refusal.
-#[derive(Clone, Copy)]
-pub struct ImageCopy {
-    pub answer: ImageAnswer,
-    pub image: [u8; IMAGE_LENGTH],
+impl From<BadValue> for WriteError {
+    ghost from_gives = { λ bad e. e ≡ WriteError.Value bad.offset };
+
+    fn from(bad: BadValue) -> WriteError {
+        WriteError::Value(bad.offset)
+    }
 }
 
 fn blank_program() -> Program
@@ -66,7 +68,7 @@ fn blank_program() -> Program
     }
 }
 
-// All zeros: what stands beside a refusal.
+// All zeros: the configuration where no image was accepted.
 pub fn blank_config() -> Config
     ensures { result ≡ blank_config }
 {
@@ -89,92 +91,62 @@ pub fn blank_config() -> Config
     }
 }
 
-fn refused(a: ImageAnswer) -> ImageRead
-    ensures { result ≡ refused_with a }
-{
-    let config = blank_config();
-    ImageRead {
-        answer: a,
-        config: config,
-    }
-}
-
 // The check of an image: refused for its length, its letters, its version, then for the first entry that breaks its rule.
-pub fn check_image(bytes: &[u8]) -> ImageAnswer
+pub fn check_image(bytes: &[u8]) -> Result<(), ImageError>
     ensures { image_said result ≡ image_answer bytes.now }
 {
     if bytes.len() != IMAGE_LENGTH {
-        return ImageAnswer::Length;
+        return Err(ImageError::Length);
     }
-    let marked = (bytes[0] == b'K') & (bytes[1] == b'R') & (bytes[2] == b'C');
-    if !marked {
-        return ImageAnswer::Mark;
+    if !bytes.starts_with(b"KRC") {
+        return Err(ImageError::Mark);
     }
-    if le::u16_at(bytes, 3) != 1 {
-        return ImageAnswer::Version;
+    if u16::from_le_bytes([bytes[3], bytes[4]]) != 1 {
+        return Err(ImageError::Version);
     }
-    match check_config(read::config(bytes)) {
-        Verdict::Good => ImageAnswer::Accepted,
-        Verdict::Value(offset) => ImageAnswer::Value(offset),
-    }
+    check_config(read::config(bytes))?;
+    Ok(())
 }
 
 // Reads an image. The check alone, which is asked for more often, makes no configuration to hand back; so this one makes it again.
-pub fn read_image(bytes: &[u8]) -> ImageRead
-    ensures { IsRead bytes.now result }
+pub fn read_image(bytes: &[u8]) -> Result<Config, ImageError>
+    ensures { image_said result ≡ image_read bytes.now }
 {
-    let answer = check_image(bytes);
-    match answer {
-        ImageAnswer::Accepted => {
-            let config = read::config(bytes);
-            ImageRead {
-                answer: ImageAnswer::Accepted,
-                config,
-            }
-        }
-        _ => refused(answer),
-    }
+    check_image(bytes)?;
+    Ok(read::config(bytes))
 }
 
 // Writes the image of a configuration into the first bytes of the buffer. A refusal leaves every byte.
-pub fn write_image(config: Config, buffer: &mut [u8]) -> WriteAnswer
+pub fn write_image(config: Config, buffer: &mut [u8]) -> Result<(), WriteError>
     ensures said { write_said result ≡ write_answer config (length buffer.old) }
     ensures buffer { buffer.new ≡ after_write config buffer.old }
 {
-    match check_config(config) {
-        Verdict::Good => {
-            if buffer.len() < IMAGE_LENGTH {
-                return WriteAnswer::NoRoom;
-            }
-            write::config(buffer, config);
-            WriteAnswer::Written
-        }
-        Verdict::Value(offset) => WriteAnswer::Value(offset),
+    check_config(config)?;
+    if buffer.len() < IMAGE_LENGTH {
+        return Err(WriteError::NoRoom);
     }
+    write::config(buffer, config);
+    Ok(())
 }
 
 // Writes a configuration and reads it back: a good one comes back as it was.
-pub fn write_then_read(config: Config) -> ImageRead
-    ensures { ComesBack config result }
+pub fn write_then_read(config: Config) -> Result<Config, ImageError>
+    ensures { image_said result ≡ come_back config }
 {
     let mut image = [0u8; IMAGE_LENGTH];
-    if let WriteAnswer::Value(offset) = write_image(config, &mut image) {
-        return refused(ImageAnswer::Value(offset));
+    match write_image(config, &mut image) {
+        Ok(()) => read_image(&image),
+        Err(WriteError::Value(offset)) => Err(ImageError::Value(offset)),
+        Err(WriteError::NoRoom) => unreachable!(),
     }
-    read_image(&image)
 }
 
-// Reads an image and writes it anew: an accepted one comes back byte by byte. The blank configuration beside a refusal is not written.
-pub fn read_then_write(bytes: &[u8]) -> ImageCopy
-    ensures { IsCopy bytes.now result }
+// Reads an image and writes it anew: an accepted one comes back byte by byte.
+pub fn read_then_write(bytes: &[u8]) -> Result<[u8; IMAGE_LENGTH], ImageError>
+    ensures { image_said result ≡ image_copy bytes.now }
 {
+    let config = read_image(bytes)?;
     let mut image = [0u8; IMAGE_LENGTH];
-    let read = read_image(bytes);
-    let answer = read.answer;
-    let config = read.config;
-    write_image(config, &mut image);
-    ImageCopy {
-        answer: answer,
-        image: image,
-    }
+    write_image(config, &mut image).unwrap();
+    Ok(image)
 }

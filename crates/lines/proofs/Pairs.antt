@@ -1,42 +1,42 @@
--- Laws of HEX (specs/Hex.antt): how many bytes there are, each by its place, and that none of a line is cut.
-use mathlib.Core.Path.{◌≡◌, ◌∙◌}
-use mathlib.Core.List.{List}
-use Prim.Native.Nat.{ℕ, ◌/◌, ◌≤◌, ◌<◌}
-use native.Mathlib.Nat.{min-le_right}
-use native.Mathlib.Omega.{arith}
-use borrow.Author.Tests.{leb-true, leb-false}
-use lib.Dec.{leb}
-use lib.ListN.{length, get_or, drop, length-take, length-drop}
-use lib.Seq.{take_all, take-append_seam}
-use Rattle.laws.proofs.Tables.{length_table, table_at}
-use Rattle.laws.proofs.Tests.{by_test}
-use Rattle.lines.specs.Words.{without_return, word, word_place, blank_at}
+-- Laws of HEX (specs/Hex.antt): each byte by its pair of letters, and that none of a line is cut.
+use Rattle.std.proofs.Common.{◌≡◌, ℕ, zero, suc, ◌+◌, ◌*◌, ◌/◌, ◌<◌, min, List, [], ◌∷◌, ◌++◌, length, get_or, take, drop, arith, refl, ap, sym, add-zero, get_or-take, get_or-drop}
+use Rattle.std.proofs.lemmas.List.{drop-drop}
+use Rattle.std.proofs.Math.Seq.{take_all}
+use Rattle.std.specs.Simd.{first_chunks}
+use Rattle.laws.specs.Tables.{table}
+use Rattle.laws.proofs.Tables.{length_table, table_append}
+use Rattle.lines.specs.Words.{without_return, word}
 use Rattle.lines.specs.Hex.{hex_byte, hex_values, bytes_of_hex, HexWhole}
-use Rattle.lines.proofs.Splits.{first_word, word_there, word_missing}
+use Rattle.lines.proofs.Splits.{word_length}
 
--- as many bytes as there are pairs
-pub values_length : (w : List ℕ) → length (hex_values w) ≡ length w / 2
-unfolding hex_values
-values_length w = length_table (length w / 2) (hex_byte w)
+-- letter i of pair k
+pair_of : (n k : ℕ) (w : List ℕ) → k < n → get_or (first_chunks 2 n w) k [] ≡ take 2 (drop (2 * k) w)
+pair_of zero k w h = absurd (omega arith)
+pair_of (suc n) zero w h = refl
+pair_of (suc n) (suc k) w h =
+    let more : 2 + 2 * k ≡ 2 * suc k = omega arith in
+    rw (pair_of n k (drop 2 w) (omega arith), drop-drop (2 * k) 2 w, more)
 
--- byte k is that of pair k
-pub value_at_lem : (w : List ℕ) (k : ℕ) → k < length w / 2 → get_or (hex_values w) k 0 ≡ hex_byte w k
-unfolding hex_values
-value_at_lem w k h = table_at (length w / 2) (hex_byte w) k 0 h
+pub letter_of : (n m k i j : ℕ) (w : List ℕ) → k < n → k < m → i < 2 → 2 * k + i ≡ j → get_or (get_or (take m (first_chunks 2 n w)) k []) i 0 ≡ get_or w j 0
+letter_of n m k i j w h g e p = rw (get_or-take, pair_of n k w h, get_or-take, get_or-drop, p)
 
--- a word is no longer than its text
-word_length : (k : ℕ) (l : List ℕ) → length (word k l) ≤ length l
-word_length k l =
-    by_test (leb (word_place k l) (length l))
-    (λ e.
-    let rest = drop (word_place k l) l in
-    rw (word_there k l (leb-true _ _ e) ∙ first_word rest, length-take)
-    (let h = min-le_right (blank_at rest) (length rest) in omega (arith, length-drop (word_place k l) l)))
-    (λ e. rw (word_missing k l (leb-false _ _ e)) (omega arith))
+-- one value more
+pub table_more : (f : ℕ → ℕ) (k v : ℕ) (l : List ℕ) → l ≡ table k f → v ≡ f k → l ++ (v ∷ []) ≡ table (k + 1) f
+unfolding table
+table_more f k v l e h = let last = ap f (add-zero k) in rw (table_append k 1 f, e, h) (ap (λ x. table k f ++ (x ∷ [])) (sym last))
+
+-- the first values
+pub table_taken : (n m : ℕ) (f : ℕ → ℕ) → take n (table m f) ≡ table (min m n) f
+unfolding table
+table_taken zero m f = let none : min m 0 ≡ 0 = omega arith in rw none
+table_taken (suc n) zero f = let none : min 0 (suc n) ≡ 0 = omega arith in rw none
+table_taken (suc n) (suc m) f =
+    let more : min (suc m) (suc n) ≡ suc (min m n) = omega arith in
+    rw (more, table_taken n m (λ i. f (suc i)))
 
 pub hex_whole : HexWhole
-unfolding bytes_of_hex
+unfolding bytes_of_hex hex_values
 hex_whole k text h e =
     let w = word k (without_return text) in
-    let fits : length (hex_values w) ≤ 128 = omega (arith, word_length k (without_return text), values_length w) in
-    rw (e, take_all 128 (hex_values w) fits) (take-append_seam (hex_values w) _)
+    let size = length_table (length w / 2) (hex_byte w) in
+    rw (e, take_all 128 (hex_values w) (omega (arith, word_length (without_return text) k, size)))

@@ -1,37 +1,34 @@
 -- The table of lines. A line is taken without its end.
-use Rattle.std.specs.Prelude.{Bool, true, false, not, ◌||◌, List, [], ◌∷◌, ℕ, ◌+◌, ltb, leb, eqb, length, get_or, if◌then◌else◌}
+use Rattle.std.specs.Prelude.{bytes_eq, find, option_map, Bool, ◌||◌, List, [], ◌∷◌, ℕ, ◌+◌, ltb, leb, eqb, length, get_or, if◌then◌else◌, Option, Some, None, Result, Ok, Err, is_none, ok_or, unwrap_or}
 use Rattle.laws.specs.First.{first}
 use Rattle.laws.specs.Letters.{letters}
-use Rattle.lines.specs.Words.{without_return, words, word, same}
+use Rattle.laws.specs.Tables.{table}
+use Rattle.lines.specs.Words.{without_return, words, word}
 use Rattle.lines.specs.Numbers.{whole_of, signed_of}
 use Rattle.lines.specs.Hex.{is_hex}
-use Rattle.lines.specs.declared.numbers.Number.{Number}
-use Rattle.lines.specs.declared.numbers.Signed.{Signed}
 use Rattle.lines.specs.declared.Line.{Line}
-use Rattle.lines.specs.declared.Line.TheVariants.{Nothing, Start, Sample, Set, Reading, Reset, Register, Image, Date, Fleet, Profile, Record, Dataset, Readout, Block, Blockreadout, Maker, Display, Wrong}
+use Rattle.lines.specs.declared.Line.TheVariants.{Nothing, Start, Sample, Set, Reading, Reset, Register, Image, Date, Fleet, Profile, Record, Dataset, Readout, Block, Blockreadout, Maker, Display}
 use Rattle.lines.specs.declared.Line.TheVariants as line
+use Rattle.lines.specs.declared.Request.{Request}
+use Rattle.lines.specs.declared.Readout as seen
+use Rattle.lines.specs.declared.Masks.{Masks}
+use Rattle.lines.specs.declared.Mistake.{Mistake}
 use Rattle.lines.specs.declared.Mistake.TheVariants as mistake
 use Rattle.lines.specs.declared.Command.{Command}
 use Rattle.lines.specs.declared.Command.TheVariants as command
 use Rattle.lines.specs.declared.Parameter.{Parameter}
 use Rattle.lines.specs.declared.Parameter.TheVariants as parameter
-use Rattle.lines.specs.declared.First.{First}
-use Rattle.lines.specs.declared.First.TheVariants as first
-use Rattle.lines.specs.declared.Timed.{Timed}
-use Rattle.lines.specs.declared.Timed.TheVariants as timed
-use Rattle.lines.specs.declared.Asker.{Asker}
-use Rattle.lines.specs.declared.Asker.TheVariants as asker
 
 -- word k as a number of 32 bits
-abbrev pub number32 : ℕ → List ℕ → Number
+abbrev pub number32 : ℕ → List ℕ → Option ℕ
 number32 k text = whole_of 4294967295 (word k text)
 
 -- word k as a number of 16 bits
-abbrev pub number16 : ℕ → List ℕ → Number
+abbrev pub number16 : ℕ → List ℕ → Option ℕ
 number16 k text = whole_of 65535 (word k text)
 
 -- word k as a number of 8 bits
-abbrev pub number8 : ℕ → List ℕ → Number
+abbrev pub number8 : ℕ → List ℕ → Option ℕ
 number8 k text = whole_of 255 (word k text)
 
 -- how many words a line has
@@ -39,109 +36,55 @@ abbrev pub count : List ℕ → ℕ
 count text = length (words text)
 
 -- word k as a number of 32 bits; n where the line has no such word
-abbrev pub number_or : ℕ → ℕ → List ℕ → Number
-number_or n k text = if ltb k (count text) then number32 k text else record { ok = true; value = n }
+abbrev pub number_or : ℕ → ℕ → List ℕ → Option ℕ
+number_or n k text = if ltb k (count text) then number32 k text else Some n
 
--- a word that is no number, or one that does not fit, or no HEX
-abbrev pub bad : Parameter → Line
-bad p = Wrong (mistake.Number p)
+-- a number; or that the word is none, or one that does not fit
+abbrev pub told : {A : Type 0} → Parameter → Option A → Result A Mistake
+told p n = ok_or n (mistake.Number p)
 
--- what is asked with one time
-abbrev pub with_time : Timed → ℕ → Line
-with_time timed.Start = Start
-with_time timed.Set = Set
-with_time timed.Date = Date
+-- a step, if the one before gave a value: so the first that is wrong is told
+infixl 10 ◌>>=◌
+abbrev pub ◌>>=◌ : {A B : Type 0} → Result A Mistake → (A → Result B Mistake) → Result B Mistake
+Ok x >>= f = f x
+Err e >>= f = Err e
 
--- a time
-abbrev pub time_of : (ℕ → Line) → Number → Line
-time_of ask n = if not n.ok then bad parameter.Seconds else ask n.value
+-- a register request in the words from k on: group, register and room; ROOM is 13, the longest register, where it is not written
+abbrev pub request_of : ℕ → List ℕ → Result Request Mistake
+request_of k text = do
+  group ← told parameter.Group (number32 k text)
+  number ← told parameter.Number (number32 (k + 1) text)
+  room ← told parameter.Room (number_or 13 (k + 2) text)
+  Ok (record { group = group; number = number; room = room })
 
--- samples: bits and how many; the first number that is wrong is told
-abbrev pub sample_asked : Number → Number → Line
-sample_asked bits n = if not bits.ok then bad parameter.Bits else if not n.ok then bad parameter.Count else Sample bits.value n.value
+-- a readout in the words 1 to 4: meter, STATUS, SEQ and DECIMALS
+abbrev pub readout_of : List ℕ → Result seen.Readout Mistake
+readout_of text = do
+  meter ← told parameter.Meter (number8 1 text)
+  status ← told parameter.Status (number8 2 text)
+  seq ← told parameter.Seq (number8 3 text)
+  decimals ← told parameter.Decimals (number8 4 text)
+  Ok (record { meter = meter; status = status; seq = seq; decimals = decimals })
 
--- a reading: meter, value, STATUS and SEQ
-abbrev pub reading_asked : Number → Signed → Number → Number → Line
-reading_asked m v s q =
-    if not m.ok then bad parameter.Meter
-    else if not v.ok then bad parameter.Value
-    else if not s.ok then bad parameter.Status
-    else if not q.ok then bad parameter.Seq
-    else Reading m.value v.value s.value q.value
+-- a maker's masks in the words 2 to 5: meters, inputs, slots and bills
+abbrev pub masks_of : List ℕ → Result Masks Mistake
+masks_of text = do
+  meters ← told parameter.Meters (number32 2 text)
+  inputs ← told parameter.Inputs (number16 3 text)
+  slots ← told parameter.Slots (number16 4 text)
+  bills ← told parameter.Bills (number16 5 text)
+  Ok (record { meters = meters; inputs = inputs; slots = slots; bills = bills })
 
--- what is asked with the numbers of a register request
-abbrev pub with_register : Asker → ℕ → ℕ → ℕ → Line
-with_register asker.Operator = Register
-with_register (asker.Maker m) = Maker m
-
--- a register request: group, register and room; the first number that is wrong is told
-abbrev pub register_asked : (ℕ → ℕ → ℕ → Line) → Number → Number → Number → Line
-register_asked ask g r room =
-    if not g.ok then bad parameter.Group
-    else if not r.ok then bad parameter.Number
-    else if not room.ok then bad parameter.Room
-    else ask g.value r.value room.value
-
--- the same of the words from k on; ROOM is 13, the longest register, where it is not written
-abbrev pub register_of : (ℕ → ℕ → ℕ → Line) → ℕ → List ℕ → Line
-register_of ask k text = register_asked ask (number32 k text) (number32 (k + 1) text) (number_or 13 (k + 2) text)
-
--- a maker's register request: the maker, and then as the operator's
-abbrev pub maker_asked : Number → List ℕ → Line
-maker_asked m text = if not m.ok then bad parameter.Maker else register_of (Maker m.value) 2 text
-
--- a maker's list: the maker, and the masks of meters, inputs, slots and bills
-abbrev pub list_asked : Number → Number → Number → Number → Number → Line
-list_asked m meters inputs slots bills =
-    if not m.ok then bad parameter.Maker
-    else if not meters.ok then bad parameter.Meters
-    else if not inputs.ok then bad parameter.Inputs
-    else if not slots.ok then bad parameter.Slots
-    else if not bills.ok then bad parameter.Bills
-    else line.List m.value (record { meters = meters.value; inputs = inputs.value; slots = slots.value; bills = bills.value })
-
--- a profile: length and slots; the first number that is wrong is told
-abbrev pub profile_asked : Number → (ℕ → Number) → Line
-profile_asked n slot =
-    let wrong = first 8 (λ k. not (slot k).ok) in
-    let v : ℕ → ℕ = λ k. (slot k).value in
-    if not n.ok then bad parameter.Length
-    else if ltb wrong 8 then bad (parameter.Slot wrong)
-    else Profile n.value (record { s0 = v 0; s1 = v 1; s2 = v 2; s3 = v 3; s4 = v 4; s5 = v 5; s6 = v 6; s7 = v 7 })
-
--- a record: index and room
-abbrev pub record_asked : Number → Number → Line
-record_asked i room = if not i.ok then bad parameter.Index else if not room.ok then bad parameter.Room else Record i.value room.value
-
--- a data set: DECIMALS
-abbrev pub dataset_asked : Number → Line
-dataset_asked d = if not d.ok then bad parameter.Decimals else Dataset d.value
+-- the slots of a profile in the words 2 to 9
+unfoldable pub slots_of : List ℕ → Result (List ℕ) Mistake
+slots_of text =
+    let slot : ℕ → Option ℕ = λ k. number8 (k + 2) text in
+    let wrong = first 8 (λ k. is_none (slot k)) in
+    if ltb wrong 8 then Err (mistake.Number (parameter.Slot wrong)) else Ok (table 8 (λ k. unwrap_or (slot k) 0))
 
 -- what is asked with a word that is HEX
-abbrev pub with_hex : List ℕ → Line → Line
-with_hex w line = if not (is_hex w) then bad parameter.Hex else line
-
--- a display: ROOM, and HEX in word 2; the first that is wrong is told
-abbrev pub display_asked : Number → List ℕ → Line
-display_asked room text = if not room.ok then bad parameter.Room else with_hex (word 2 text) (Display room.value)
-
--- what is asked with the numbers of a readout: with HEX, in word 5, or without
-abbrev pub with_readout : Bool → List ℕ → ℕ → ℕ → ℕ → ℕ → Line
-with_readout true text m s q d = with_hex (word 5 text) (Blockreadout m s q d)
-with_readout false text m s q d = Readout m s q d
-
--- a readout: meter, STATUS, SEQ and DECIMALS; the first number that is wrong is told
-abbrev pub readout_asked : (ℕ → ℕ → ℕ → ℕ → Line) → Number → Number → Number → Number → Line
-readout_asked ask m s q d =
-    if not m.ok then bad parameter.Meter
-    else if not s.ok then bad parameter.Status
-    else if not q.ok then bad parameter.Seq
-    else if not d.ok then bad parameter.Decimals
-    else ask m.value s.value q.value d.value
-
--- the same of the words 1 to 4
-abbrev pub readout_of : Bool → List ℕ → Line
-readout_of hex text = readout_asked (with_readout hex text) (number8 1 text) (number8 2 text) (number8 3 text) (number8 4 text)
+abbrev pub with_hex : List ℕ → Line → Result Line Mistake
+with_hex w line = if is_hex w then Ok line else Err (mistake.Number parameter.Hex)
 
 -- how many words a line of a command has; TEXT may hold blanks, and then it is several
 abbrev pub has_words : Command → ℕ → Bool
@@ -165,25 +108,61 @@ has_words command.Maker n = eqb n 4 || eqb n 5
 has_words command.Display n = leb 4 n
 
 -- what a line of a command asks; COUNT is 1 where it is not written, and ROOM 69, a record
-unfoldable pub asked_of : Command → List ℕ → Line
-asked_of command.Start text = time_of Start (number32 1 text)
-asked_of command.Sample text = sample_asked (number16 1 text) (number_or 1 2 text)
-asked_of command.Set text = time_of Set (number32 1 text)
-asked_of command.Reading text = reading_asked (number8 1 text) (signed_of (word 2 text)) (number8 3 text) (number8 4 text)
-asked_of command.Reset text = Reset
-asked_of command.Register text = register_of Register 1 text
-asked_of command.Image text = Image
-asked_of command.Date text = time_of Date (number32 1 text)
-asked_of command.Fleet text = Fleet
-asked_of command.Profile text = profile_asked (number32 1 text) (λ k. number8 (k + 2) text)
-asked_of command.Record text = record_asked (number32 1 text) (number_or 69 2 text)
-asked_of command.Dataset text = dataset_asked (number8 1 text)
-asked_of command.Readout text = readout_of false text
+abbrev pub asked_of : Command → List ℕ → Result Line Mistake
+asked_of command.Start text = do
+  time ← told parameter.Seconds (number32 1 text)
+  Ok (Start time)
+asked_of command.Sample text = do
+  bits ← told parameter.Bits (number16 1 text)
+  n ← told parameter.Count (number_or 1 2 text)
+  Ok (Sample bits n)
+asked_of command.Set text = do
+  time ← told parameter.Seconds (number32 1 text)
+  Ok (Set time)
+asked_of command.Reading text = do
+  meter ← told parameter.Meter (number8 1 text)
+  value ← told parameter.Value (signed_of (word 2 text))
+  status ← told parameter.Status (number8 3 text)
+  seq ← told parameter.Seq (number8 4 text)
+  Ok (Reading meter value status seq)
+asked_of command.Reset text = Ok Reset
+asked_of command.Register text = do
+  request ← request_of 1 text
+  Ok (Register request)
+asked_of command.Image text = Ok Image
+asked_of command.Date text = do
+  time ← told parameter.Seconds (number32 1 text)
+  Ok (Date time)
+asked_of command.Fleet text = Ok Fleet
+asked_of command.Profile text = do
+  n ← told parameter.Length (number32 1 text)
+  slots ← slots_of text
+  Ok (Profile n slots)
+asked_of command.Record text = do
+  index ← told parameter.Index (number32 1 text)
+  room ← told parameter.Room (number_or 69 2 text)
+  Ok (Record index room)
+asked_of command.Dataset text = do
+  decimals ← told parameter.Decimals (number8 1 text)
+  Ok (Dataset decimals)
+asked_of command.Readout text = do
+  readout ← readout_of text
+  Ok (Readout readout)
 asked_of command.Block text = with_hex (word 1 text) Block
-asked_of command.Blockreadout text = readout_of true text
-asked_of command.List text = list_asked (number8 1 text) (number32 2 text) (number16 3 text) (number16 4 text) (number16 5 text)
-asked_of command.Maker text = maker_asked (number8 1 text) text
-asked_of command.Display text = display_asked (number32 1 text) text
+asked_of command.Blockreadout text = do
+  readout ← readout_of text
+  with_hex (word 5 text) (Blockreadout readout)
+asked_of command.List text = do
+  maker ← told parameter.Maker (number8 1 text)
+  masks ← masks_of text
+  Ok (line.List maker masks)
+asked_of command.Maker text = do
+  maker ← told parameter.Maker (number8 1 text)
+  request ← request_of 2 text
+  Ok (Maker maker request)
+asked_of command.Display text = do
+  room ← told parameter.Room (number32 1 text)
+  with_hex (word 2 text) (Display room)
 
 -- the commands by their words
 unfoldable pub commands : List (List ℕ × Command)
@@ -208,28 +187,23 @@ commands =
     ∷ (letters "display", command.Display)
     ∷ []
 
--- the command that a table has for a word
-unfoldable pub command_in : List (List ℕ × Command) → List ℕ → First
-command_in [] w = first.Unknown
-command_in (entry ∷ rest) w = if same w entry.0 then first.Is entry.1 else command_in rest w
-
 -- the command of a first word
-abbrev pub command_of : List ℕ → First
-command_of w = command_in commands w
+abbrev pub command_of : List ℕ → Option Command
+command_of w = option_map (λ entry. entry.1) (find (λ entry. bytes_eq entry.0 w) commands)
 
 -- what a line asks by its first word: a command with as many words as it has
-unfoldable pub asked : First → List ℕ → Line
-asked (first.Is c) text = if has_words c (count text) then asked_of c text else Wrong (mistake.Words c)
-asked first.Unknown text = Wrong mistake.Unknown
+abbrev pub asked : Option Command → List ℕ → Result Line Mistake
+asked (Some c) text = if has_words c (count text) then asked_of c text else Err (mistake.Words c)
+asked None text = Err mistake.Unknown
 
 -- what a line asks: at most 255 letters; nothing if it is blank or begins with # (35)
-unfoldable pub text_means : List ℕ → Line
+unfoldable pub text_means : List ℕ → Result Line Mistake
 text_means text =
-    if ltb 255 (length text) then Wrong mistake.TooLong
-    else if eqb (length text) 0 then Nothing
-    else if eqb (get_or text 0 0) 35 then Nothing
+    if ltb 255 (length text) then Err mistake.TooLong
+    else if eqb (length text) 0 then Ok Nothing
+    else if eqb (get_or text 0 0) 35 then Ok Nothing
     else asked (command_of (word 0 text)) text
 
 -- the same where a carriage return may stand at the end
-abbrev pub line_means : List ℕ → Line
+abbrev pub line_means : List ℕ → Result Line Mistake
 line_means text = text_means (without_return text)

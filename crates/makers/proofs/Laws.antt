@@ -28,7 +28,6 @@ use Rattle.recorder.specs.declared.Recorder.{Recorder}
 use Rattle.registers.specs.Fleet.{meter_class, class_at, has_class, has_any, awake_value, awake_sum, classes_of, fleet_of}
 use Rattle.registers.specs.Contents.{fleet_bytes}
 use Rattle.registers.specs.Registers.{groups, look_up, RegisterReply, refusal, register_reply}
-use Rattle.registers.proofs.Groups.{is_given_lem}
 use Rattle.registers.proofs.Laws.{refused_leaves}
 use Rattle.makers.specs.Requests.{on_list, only_meters, maker_reply}
 use Rattle.makers.specs.Laws.{everything, RefusedToMaker, AsTheOperator, FleetOfList, EverythingListed, NothingListed}
@@ -55,7 +54,7 @@ refused_to_maker r maker group register buffer n offset =
 pub as_the_operator : AsTheOperator
 as_the_operator r maker group register buffer n other =
     by_way (λ reply. reply.answer ≡ given n → reply ≡ register_reply r group register buffer) r maker group register buffer
-    (λ t e. absurd (true≢false (sym (ap is_given_lem e)))) (λ f e. absurd (true≢false (sym (ap is_given_lem e))))
+    (λ t e. absurd cc) (λ f e. absurd cc)
     (λ t. absurd (true≢false (sym t ∙ ne_eqb group 204 other))) (λ f e. refl)
 
 -- The fleet

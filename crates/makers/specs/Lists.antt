@@ -1,11 +1,9 @@
 -- "At the start give three makers each a list of meters, inputs, slots and bill registers. .. Refusals: 20 NO MAKER, for a maker above 2."
-use Rattle.std.specs.Prelude.{ℕ, ltb, set, if◌then◌else◌}
-use Rattle.laws.specs.Answers.{Reply}
+use Rattle.std.specs.Prelude.{ℕ, ltb, set, if◌then◌else◌, Result, Ok, Err}
+use Rattle.laws.specs.Answers.{Answer, given, refused, Reply}
 use Rattle.recorder.specs.declared.MakerList.{MakerList}
 use Rattle.recorder.specs.declared.Setup.{Setup}
-use Rattle.makers.specs.declared.ListAnswer.{ListAnswer}
-use Rattle.makers.specs.declared.ListAnswer.TheVariants as list
-use Rattle.makers.specs.declared.Listing.{Listing}
+use Rattle.makers.specs.declared.NoMaker.{NoMaker}
 
 -- what a start is given, with another list for a maker
 abbrev pub with_list : Setup → ℕ → MakerList → Setup
@@ -16,10 +14,11 @@ unfoldable pub list_reply : Setup → ℕ → MakerList → Reply Setup
 list_reply setup maker l = if ltb 2 maker then record { number = 20; after = setup } else record { number = 0; after = with_list setup maker l }
 
 -- the number of the code's answer
-abbrev pub list_number : ListAnswer → ℕ
-list_number list.Listed = 0
-list_number list.NoMaker = 20
+abbrev pub list_number : {A : Type 0} → Result A NoMaker → ℕ
+list_number (Ok x) = 0
+list_number (Err error) = 20
 
 -- what the code's answer says
-abbrev pub listing_said : Listing → Reply Setup
-listing_said r = record { number = list_number r.answer; after = r.setup }
+abbrev pub listing_said : Result Setup NoMaker → Answer Setup
+listing_said (Ok next) = given next
+listing_said (Err error) = refused 20 0

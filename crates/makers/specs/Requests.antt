@@ -1,7 +1,7 @@
 -- "A maker's register request for something not on the list gets NO REGISTER; group 204 covers that maker's meters only; groups 89, 90, 91 and 206 are common. .. Refusals: 20 NO MAKER, for a maker
 -- above 2, before 11; 12 now also for what isn't on the list." Bit i of a mask names meter, input, slot or bill register i.
-use Rattle.std.specs.Prelude.{Bool, true, not, List, ℕ, ltb, eqb, get_or, if◌then◌else◌}
-use Rattle.laws.specs.Answers.{Answer, refused}
+use Rattle.std.specs.Prelude.{Bool, true, not, List, ℕ, ltb, eqb, get_or, if◌then◌else◌, Result, Ok, Err}
+use Rattle.laws.specs.Answers.{Answer, given, refused}
 use Rattle.laws.specs.Masks.{bit_at}
 use Rattle.laws.specs.Tables.{table}
 use Rattle.settings.specs.declared.Config.{Config}
@@ -9,8 +9,8 @@ use Rattle.recorder.specs.Lists.{list_of}
 use Rattle.recorder.specs.declared.MakerList.{MakerList}
 use Rattle.recorder.specs.declared.Recorder.{Recorder}
 use Rattle.registers.specs.Registers.{register_said, RegisterReply, refusal, register_reply}
-use Rattle.makers.specs.declared.MakerAnswer.{MakerAnswer}
-use Rattle.makers.specs.declared.MakerAnswer.TheVariants.{NoMaker, Asked}
+use Rattle.makers.specs.declared.MakerError.{MakerError}
+use Rattle.makers.specs.declared.MakerError.TheVariants.{NoMaker, Register}
 
 -- a register of a group is on a list: serial meters, level 9 slots, bill registers and inputs are asked, each by its mask; all other groups are common
 unfoldable pub on_list : MakerList → ℕ → ℕ → Bool
@@ -49,10 +49,11 @@ maker_reply r maker group register buffer =
     else register_reply r group register buffer
 
 -- what the code's answer says
-abbrev pub maker_said : MakerAnswer → Answer ℕ
-maker_said NoMaker = refused 20 0
-maker_said (Asked answer) = register_said answer
+abbrev pub maker_said : Result ℕ MakerError → Answer ℕ
+maker_said (Ok n) = given n
+maker_said (Err NoMaker) = refused 20 0
+maker_said (Err (Register error)) = register_said (Err error)
 
 -- the code's answer with the buffer after the call
-abbrev pub maker_replied : MakerAnswer → List ℕ → RegisterReply
+abbrev pub maker_replied : Result ℕ MakerError → List ℕ → RegisterReply
 maker_replied answer buffer = record { answer = maker_said answer; buffer = buffer }

@@ -2,53 +2,51 @@
 #![tactic(auto)]
 
 ghost use Rattle.std.specs.Prelude.{◌≡◌, if◌then◌else◌};
+ghost use Rattle.laws.specs.Answers.{reply_to};
 ghost use Rattle.makers.specs.Lists.{listing_said, list_reply};
+ghost use Rattle.makers.specs.declared.MakerError.TheVariants.{Register};
 ghost use Rattle.makers.specs.Requests.{on_list, only_meters, maker_replied, maker_reply};
 
 use recorder::{MakerList, Recorder, Setup};
-use registers::{RegisterAnswer, read_register};
+use registers::{RegisterError, read_register};
+use std::array;
 use tariff::bit_at;
 
-// The answer to a maker's request: that there is no such maker, or what a register request is answered.
-#[derive(Clone, Copy)]
-pub enum MakerAnswer {
+// The refusals of a maker's request: that there is no such maker, or those of a register request.
+#[derive(Clone, Copy, Debug, PartialEq, Eq)]
+pub enum MakerError {
     NoMaker,
-    Asked(RegisterAnswer),
+    Register(RegisterError),
 }
 
-#[derive(Clone, Copy)]
-pub enum ListAnswer {
-    Listed,
-    NoMaker,
+impl From<RegisterError> for MakerError {
+    ghost from_gives = { λ error given. given ≡ Register error };
+
+    fn from(error: RegisterError) -> MakerError {
+        MakerError::Register(error)
+    }
 }
 
-// What the next start is given, and the answer.
-#[derive(Clone, Copy)]
-pub struct Listing {
-    pub setup: Setup,
-    pub answer: ListAnswer,
-}
+// The refusal of a list.
+#[derive(Clone, Copy, Debug, PartialEq, Eq)]
+pub struct NoMaker;
 
-// A maker's list for the next start.
-pub fn give_list(setup: Setup, maker: u8, list: MakerList) -> Listing
-    ensures { listing_said result ≡ list_reply setup maker list }
+// What the next start is given, with another list for a maker.
+#[tactic(auto, unfolding(crate::specs::Lists::list_reply))]
+pub fn give_list(setup: Setup, maker: u8, list: MakerList) -> Result<Setup, NoMaker>
+    ensures { reply_to setup (listing_said result) ≡ list_reply setup maker list }
 {
     let place = maker as usize;
     if place > 2 {
-        return Listing {
-            setup,
-            answer: ListAnswer::NoMaker,
-        };
+        return Err(NoMaker);
     }
-    let mut setup = setup;
-    setup.lists[place] = list;
-    Listing {
-        setup,
-        answer: ListAnswer::Listed,
-    }
+    let mut next = setup;
+    next.lists[place] = list;
+    Ok(next)
 }
 
 // Meters, slots, bill registers and inputs are asked of the list; all other groups are common.
+#[tactic(auto, unfolding(crate::specs::Requests::on_list))]
 fn on_list(list: MakerList, group: u32, register: u32) -> bool
     ensures { result ≡ on_list list group register }
 {
@@ -62,51 +60,38 @@ fn on_list(list: MakerList, group: u32, register: u32) -> bool
     }
 }
 
-fn limit_if(listed: bool, limit: u16) -> u16
-    ensures { result ≡ (if listed then limit else 0) }
-{
-    if listed { limit } else { 0 }
-}
-
 // Only the meters of a mask are fitted: those off the list have no age limit any more, so no class, and their values are not added.
 fn only_meters(recorder: Recorder, mask: u32) -> Recorder
     ensures { result ≡ only_meters recorder mask }
 {
-    let mut config = recorder.config;
-    let limits = config.limits;
-    let mut own = limits;
-    for i in 0..32usize {
-        own[i] = limit_if(bit_at(mask, i), limits[i]);
-    }
-    config.limits = own;
-    let mut recorder = recorder;
-    recorder.config = config;
-    recorder
+    let limits = recorder.config.limits;
+    let mut own = recorder;
+    own.config.limits = array::from_fn(|i| if bit_at(mask, i) { limits[i] } else { 0 });
+    own
 }
 
 // A maker's register request. What is not on the list is no register; all else is answered as the operator's request, but for the fleet, which is that of the list's meters.
+#[tactic(auto, unfolding(crate::specs::Requests::maker_reply))]
 pub fn read_own(
     recorder: Recorder,
     maker: u8,
     group: u32,
     register: u32,
     buf: &mut [u8],
-) -> MakerAnswer
+) -> Result<usize, MakerError>
     ensures { maker_replied result buf.new ≡ maker_reply recorder maker group register buf.old }
 {
     let place = maker as usize;
     if place > 2 {
-        return MakerAnswer::NoMaker;
+        return Err(MakerError::NoMaker);
     }
-    let setup = recorder.setup;
-    let lists = setup.lists;
-    let list = lists[place];
+    let list = recorder.setup.lists[place];
     if !on_list(list, group, register) {
-        return MakerAnswer::Asked(RegisterAnswer::NoRegister);
+        return Err(MakerError::Register(RegisterError::NoRegister));
     }
     if group == 204 {
         let fleet = only_meters(recorder, list.meters);
-        return MakerAnswer::Asked(read_register(fleet, group, register, buf));
+        return Ok(read_register(fleet, group, register, buf)?);
     }
-    MakerAnswer::Asked(read_register(recorder, group, register, buf))
+    Ok(read_register(recorder, group, register, buf)?)
 }

@@ -1,5 +1,5 @@
 -- No second result, and no second buffer, fits the contract of a public function of the profile.
-use Rattle.std.specs.Prelude.{if◌then◌else◌}
+use Rattle.std.specs.Prelude.{Result, Ok, Err, if◌then◌else◌}
 use mathlib.Core.Path.{◌≡◌, refl, sym, ap, ◌∙◌}
 use lib.Dec.{eqb}
 use Rattle.laws.specs.Answers.{Answer, given, refused}
@@ -7,8 +7,8 @@ use Rattle.laws.specs.Unique.{OneResult, OneExit}
 use Rattle.laws.proofs.Unique.{told_apart}
 use Rattle.profile.specs.Room.{Kept}
 use Rattle.profile.specs.Reading.{RecordReply, record_said}
-use Rattle.profile.specs.declared.RecordAnswer.{RecordAnswer}
-use Rattle.profile.specs.declared.RecordAnswer.TheVariants.{Given, ProfileBuffer, NoRecord, NoRoom}
+use Rattle.profile.specs.declared.RecordError.{RecordError}
+use Rattle.profile.specs.declared.RecordError.TheVariants.{ProfileBuffer, NoRecord, NoRoom}
 use Rattle.profile.proofs.legal_length.Reads as legal_length_reads
 use Rattle.profile.proofs.Profile.as_at_start.Reads as as_at_start_reads
 use Rattle.profile.proofs.Profile.put.Reads as put_reads
@@ -18,18 +18,18 @@ use Rattle.profile.proofs.records.slots_fit.Reads as slots_fit_reads
 use Rattle.profile.proofs.records.choose.Reads as choose_reads
 
 -- the papers' number tells all answers to a request apart
-pub record_apart : (x y : RecordAnswer) → record_said x ≡ record_said y → x ≡ y
+pub record_apart : (x y : Result (Unit {0}) RecordError) → record_said x ≡ record_said y → x ≡ y
 record_apart = told_apart record_said back told
   where
-    back : Answer (Unit {0}) → RecordAnswer
-    back (given u) = Given
-    back (refused n offset) = if eqb n 14 then ProfileBuffer else if eqb n 15 then NoRecord else NoRoom
+    back : Answer (Unit {0}) → Result (Unit {0}) RecordError
+    back (given u) = Ok tt
+    back (refused n offset) = if eqb n 14 then Err ProfileBuffer else if eqb n 15 then Err NoRecord else Err NoRoom
 
-    told : (x : RecordAnswer) → back (record_said x) ≡ x
-    told Given = refl
-    told ProfileBuffer = refl
-    told NoRecord = refl
-    told NoRoom = refl
+    told : (x : Result (Unit {0}) RecordError) → back (record_said x) ≡ x
+    told (Ok u) = refl
+    told (Err ProfileBuffer) = refl
+    told (Err NoRecord) = refl
+    told (Err NoRoom) = refl
 
 pub legal_length_lem : OneResult legal_length_reads.Post
 legal_length_lem κs a x y e f p q = p ∙ sym q

@@ -1,10 +1,10 @@
 -- CR 1: "Reading goes in writing order, oldest first (index 0). .. 14 PROFILE BUFFER, .. 15 NO RECORD, for an index not held, then 13 for a result below 69 bytes."
-use Rattle.std.specs.Prelude.{not, List, ◌++◌, ℕ, ◌+◌, ◌-◌, ◌*◌, min, ltb, leb, length, take, drop, if◌then◌else◌}
+use Rattle.std.specs.Prelude.{Result, Ok, Err, not, List, ◌++◌, ℕ, ◌+◌, ◌-◌, ◌*◌, min, ltb, leb, length, take, drop, if◌then◌else◌}
 use Rattle.laws.specs.Answers.{Answer, given, refused}
 use Rattle.profile.specs.Room.{as_at_start, room_of, next_place}
 use Rattle.profile.specs.declared.Profile.{Profile}
-use Rattle.profile.specs.declared.RecordAnswer.{RecordAnswer}
-use Rattle.profile.specs.declared.RecordAnswer.TheVariants.{Given, ProfileBuffer, NoRecord, NoRoom}
+use Rattle.profile.specs.declared.RecordError.{RecordError}
+use Rattle.profile.specs.declared.RecordError.TheVariants.{ProfileBuffer, NoRecord, NoRoom}
 
 -- how many records are held, as many as fit
 abbrev pub held_in : Profile → ℕ
@@ -40,12 +40,12 @@ record_reply p index buffer result =
     else record { answer = given tt; result = record_at buffer (place_at p index) ++ drop 69 result }
 
 -- what the code's answer says
-abbrev pub record_said : RecordAnswer → Answer (Unit {0})
-record_said Given = given tt
-record_said ProfileBuffer = refused 14 0
-record_said NoRecord = refused 15 0
-record_said NoRoom = refused 13 0
+abbrev pub record_said : Result (Unit {0}) RecordError → Answer (Unit {0})
+record_said (Ok u) = given tt
+record_said (Err ProfileBuffer) = refused 14 0
+record_said (Err NoRecord) = refused 15 0
+record_said (Err NoRoom) = refused 13 0
 
 -- the code's answer with the result after the call
-abbrev pub record_replied : RecordAnswer → List ℕ → RecordReply
+abbrev pub record_replied : Result (Unit {0}) RecordError → List ℕ → RecordReply
 record_replied answer result = record { answer = record_said answer; result = result }

@@ -3,13 +3,12 @@
 
 mod records;
 
-ghost use Rattle.std.specs.Prelude.{◌≡◌, ◌+◌, ◌<◌, min};
-ghost use Rattle.profile.specs.Room.{legal_length, as_at_start, room_of, next_place, moved_on, kept, with_record};
-ghost use Rattle.profile.specs.Room.{within};
+ghost use Rattle.std.specs.Prelude.{◌≡◌, ◌<◌};
+ghost use Rattle.profile.specs.Room.{legal_length, as_at_start, room_of, within, next_place, moved_on, kept, with_record};
 ghost use Rattle.profile.specs.Reading.{held_in, oldest_of, place_at, record_replied, record_reply};
 
+use records::put_record;
 pub use records::{RECORD_LENGTH, Record, bits64, choose, slots_fit};
-use records::{copy_record, put_record};
 
 // How many bytes may be lent at most.
 const LONGEST: usize = 65536;
@@ -22,10 +21,9 @@ pub struct Profile {
     pub held: usize,
 }
 
-// The answer to a request for a record.
-#[derive(Clone, Copy)]
-pub enum RecordAnswer {
-    Given,
+// Why a request for a record is refused.
+#[derive(Clone, Copy, Debug, PartialEq, Eq)]
+pub enum RecordError {
     ProfileBuffer,
     NoRecord,
     NoRoom,
@@ -35,27 +33,15 @@ pub enum RecordAnswer {
 pub fn legal_length(length: usize) -> bool
     ensures { result ≡ legal_length length }
 {
-    (RECORD_LENGTH <= length) & (length <= LONGEST)
+    (RECORD_LENGTH..=LONGEST).contains(&length)
 }
 
 // A place, from the first again past the last.
+#[tactic(auto, unfolding(crate::specs::Room::within))]
 fn within(room: usize, place: usize) -> usize
     ensures { result ≡ within room place }
 {
-    if place < room {
-        return place;
-    }
-    0
-}
-
-// One more, up to the room.
-fn one_more(held: usize, room: usize) -> usize
-    ensures { result ≡ min (held + 1) room }
-{
-    if held < room {
-        return held + 1;
-    }
-    room
+    if place < room { place } else { 0 }
 }
 
 impl Profile {
@@ -63,7 +49,7 @@ impl Profile {
     pub fn as_at_start(self, length: usize) -> bool
         ensures { result ≡ as_at_start self length }
     {
-        legal_length(length) & (length == self.length)
+        legal_length(length) && length == self.length
     }
 
     // How many whole records the buffer has room for.
@@ -81,18 +67,20 @@ impl Profile {
     }
 
     // One record more is held, as many as fit, and the next place is the one behind it.
+    #[tactic(auto, using(crate::proofs::Places::within_small), unfolding(crate::specs::Room::moved_on))]
     fn moved_on(self) -> Profile
         ensures { result ≡ moved_on self }
     {
         let room = self.room();
         Profile {
-            length: self.length,
             next: within(room, self.place() + 1),
-            held: one_more(self.held, room),
+            held: self.held.saturating_add(1).min(room),
+            ..self
         }
     }
 
     // Puts one record. A buffer that is not as long as at the start is left alone.
+    #[tactic(auto, using(crate::proofs::Places::next_bytes), unfolding(crate::specs::Room::with_record, crate::specs::Room::written))]
     pub fn put(self, newest: Record, buffer: &mut [u8]) -> Profile
         ensures { kept result buffer.new ≡ with_record (kept self buffer.old) newest }
     {
@@ -107,11 +95,7 @@ impl Profile {
     fn count(self) -> usize
         ensures { result ≡ held_in self }
     {
-        let room = self.room();
-        if self.held < room {
-            return self.held;
-        }
-        room
+        self.held.min(self.room())
     }
 
     // The place of the oldest record: where the room is used up it is the next to be taken.
@@ -119,39 +103,40 @@ impl Profile {
         ensures { result ≡ oldest_of self }
     {
         if self.held < self.room() {
-            return 0;
+            0
+        } else {
+            self.place()
         }
-        self.place()
     }
 
     // The place of a record, counted from the oldest.
+    #[tactic(auto, using(crate::proofs::Places::oldest_small), unfolding(crate::specs::Reading::place_at))]
     fn place_at(self, index: usize) -> usize
         requires { index < room_of self }
         ensures { result ≡ place_at self index }
     {
         let room = self.room();
         let place = self.oldest() + index;
-        if place < room {
-            return place;
-        }
-        place - room
+        if place < room { place } else { place - room }
     }
 
     // Reads a record into the first bytes of a result, the oldest with index 0. A refused request changes no byte of it.
-    pub fn read(self, index: u32, buffer: &[u8], res: &mut [u8]) -> RecordAnswer
+    #[tactic(auto, using(crate::proofs::Places::held_bytes), unfolding(crate::specs::Reading::record_reply))]
+    pub fn read(self, index: u32, buffer: &[u8], res: &mut [u8]) -> Result<(), RecordError>
         ensures { record_replied result res.new ≡ record_reply self index buffer.now res.old }
     {
         if !self.as_at_start(buffer.len()) {
-            return RecordAnswer::ProfileBuffer;
+            return Err(RecordError::ProfileBuffer);
         }
         let i = index as usize;
         if self.count() <= i {
-            return RecordAnswer::NoRecord;
+            return Err(RecordError::NoRecord);
         }
         if res.len() < RECORD_LENGTH {
-            return RecordAnswer::NoRoom;
+            return Err(RecordError::NoRoom);
         }
-        copy_record(res, buffer, RECORD_LENGTH * self.place_at(i));
-        RecordAnswer::Given
+        let at = RECORD_LENGTH * self.place_at(i);
+        res[..RECORD_LENGTH].copy_from_slice(&buffer[at..at + RECORD_LENGTH]);
+        Ok(())
     }
 }

@@ -1,18 +1,19 @@
 -- Blocks (specs/Blocks.antt): what the tests of the code come to, one after another; that a block is what stands around bytes, and that one changed byte shows (specs/Laws.antt, BlockAroundBytes and OneByteChanged).
 use mathlib.Core.Path.{◌≡◌, refl, sym, ap, ◌∙◌}
-use mathlib.Core.Bool.{true, false, ◌&&◌}
+use mathlib.Core.Bool.{true, false, ◌&&◌, true≢false}
 use mathlib.Core.List.{List, [], ◌∷◌, ◌++◌, append_assoc}
 use Prim.Native.Nat.{ℕ, zero, suc, ◌+◌, ◌-◌, ◌≤◌, ◌<◌}
 use native.Mathlib.Nat.{le_of_suc-le-suc, not-suc-le-zero}
 use native.Mathlib.Numerals.{add-one}
 use native.Mathlib.Omega.{arith}
-use borrow.Author.Tests.{eq-eqb, ne_eqb, eqb-true, not-false}
+use Rattle.std.specs.List.{list_any}
+use borrow.Author.Tests.{eq-eqb, eqb-true, not-true}
 use lib.Bits.{bit_xor, xor_comm, xor_self}
 use lib.Dec.{eqb}
-use lib.ListN.{length, get_or, set, take, drop, length-drop, length-append, take-append-drop, drop_of_length-le, get_or-eq_default}
-use lib.Seq.{get_or-drop, take-suc, drop-drop, take-append_seam, drop-append_seam}
+use lib.ListN.{length, get_or, set, take, drop, length-drop, length-append, take-append-drop, drop_of_length-le}
+use lib.Seq.{get_or-drop, take-suc, take-append_seam, drop-append_seam, length-take-le}
 use Rattle.laws.specs.Leading.{leading}
-use Rattle.laws.proofs.Leading.{leading_fails, leading_exactly, leading_each}
+use Rattle.laws.proofs.Leading.{leading_exactly, leading_each}
 use Rattle.laws.proofs.Suffixes.{head_at, next_at, length_at, from_letter, at_letter}
 use Rattle.laws.proofs.Tests.{by_test, and_left, and_right}
 use Rattle.laws.proofs.Xor.{xor_same}
@@ -20,33 +21,66 @@ use Rattle.readout.specs.DataSets.{AllOf}
 use Rattle.readout.specs.Blocks.{xor_from, not_etx, block_around, is_block}
 use Rattle.readout.specs.Laws.{BlockAroundBytes, OneByteChanged}
 
+-- Bytes that are a block, taken apart from both ends
+
+-- ETX is found nowhere among bytes that are all others
+no_etx : (l : List ℕ) → AllOf not_etx l → list_any (λ b. eqb b 3) l ≡ false
+no_etx [] h = refl
+no_etx (b ∷ rest) h = rw (not-true (eqb b 3) h.0) (no_etx rest h.1)
+
+others : (l : List ℕ) → list_any (λ b. eqb b 3) l ≡ false → AllOf not_etx l
+others [] e = tt
+others (b ∷ rest) e = by_test (eqb b 3) (λ t. absurd (true≢false (rw t at e))) (λ t. (rw t refl, others rest (rw t at e)))
+
+-- STX, bytes other than ETX, ETX, and the exclusive or of all between the first byte and the last
+pub record Parts (b : List ℕ) : Type 0 where
+  pub long : 3 ≤ length b
+  pub stx : get_or b 0 0 ≡ 2
+  pub etx : get_or b (length b - 2) 0 ≡ 3
+  pub inside : list_any (λ b. eqb b 3) (take (length b - 2 - 1) (drop 1 b)) ≡ false
+  pub check : get_or b (length b - 1) 0 ≡ xor_from 0 (take (length b - 1 - 1) (drop 1 b))
+
 module _ (b : List ℕ) where
-  pub block_other : (get_or b 0 0 ≡ 2 → ⊥) → is_block b ≡ false
+  abbrev n : ℕ
+  n = leading not_etx (drop 1 b)
+
+  pub parts : is_block b ≡ true → Parts b
   unfolding is_block
-  block_other h = rw (ne_eqb (get_or b 0 0) 2 h)
+  parts t =
+      let stx = eqb (get_or b 0 0) 2 in
+      let long = eqb (length b) (n + 3) in
+      let etx = eqb (get_or b (n + 1) 0) 3 in
+      let check = eqb (get_or b (n + 2) 0) (xor_from 0 (take (n + 1) (drop 1 b))) in
+      let front = and_left (stx && long && etx) check t in
+      let size = eqb-true (length b) (n + 3) (and_right stx long (and_left (stx && long) etx front)) in
+      let e₁ : length b - 2 ≡ n + 1 = omega arith in
+      let e₂ : length b - 2 - 1 ≡ n = omega arith in
+      let e₃ : length b - 1 ≡ n + 2 = omega arith in
+      let e₄ : length b - 1 - 1 ≡ n + 1 = omega arith in
+      record {
+        long = omega arith;
+        stx = eqb-true (get_or b 0 0) 2 (and_left stx long (and_left (stx && long) etx front));
+        etx = rw e₁ (eqb-true (get_or b (n + 1) 0) 3 (and_right (stx && long) etx front));
+        inside = rw e₂ (no_etx (take n (drop 1 b)) (leading_each not_etx (drop 1 b)));
+        check = rw (e₄, e₃) (eqb-true (get_or b (n + 2) 0) (xor_from 0 (take (n + 1) (drop 1 b))) (and_right (stx && long && etx) check t));
+      }
 
-  -- no byte at all
-  pub block_empty : length b ≡ 0 → is_block b ≡ false
-  block_empty e =
-      let none : length b ≤ 0 = omega arith in
-      block_other (λ k. let d = get_or-eq_default b 0 none in absurd (omega arith))
-
-  module _ (etx : ℕ) (stx : get_or b 0 0 ≡ 2) (e : etx ≡ 1 + leading not_etx (drop 1 b)) where
-    pub block_length : (length b - etx ≡ 2 → ⊥) → is_block b ≡ false
-    unfolding is_block
-    block_length h = rw (eq-eqb (get_or b 0 0) 2 stx, ne_eqb (length b) (leading not_etx (drop 1 b) + 3) (λ k. h (omega arith)))
-
-    pub block_check : length b - etx ≡ 2 → is_block b ≡ eqb (get_or b (etx + 1) 0) (xor_from 0 (take (etx + 1 - 1) (drop 1 b)))
-    unfolding is_block
-    block_check h =
-        let n = leading not_etx (drop 1 b) in
-        let l : length (drop 1 b) ≡ length b - 1 = length-drop 1 b in
-        let stop : eqb (get_or (drop 1 b) n 0) 3 ≡ true = not-false _ (leading_fails not_etx (drop 1 b) (omega arith)) in
-        let next : 1 + n ≡ n + 1 = omega arith in
-        let at : get_or b (n + 1) 0 ≡ get_or (drop 1 b) n 0 = sym (get_or-drop 1 b n 0 ∙ ap (λ k. get_or b k 0) next) in
-        let k₁ : n + 2 ≡ etx + 1 = omega arith in
-        let k₂ : n + 1 ≡ etx + 1 - 1 = omega arith in
-        rw (eq-eqb (get_or b 0 0) 2 stx, eq-eqb (length b) (n + 3) (omega arith), at, stop, k₁, k₂)
+  pub whole : Parts b → is_block b ≡ true
+  unfolding is_block
+  whole p =
+      let k = length b - 2 - 1 in
+      let rest = drop 1 b in
+      let size : length rest ≡ length b - 1 = length-drop 1 b in
+      let place : length b - 2 ≡ 1 + k = let l = p.long in omega arith in
+      let etx : get_or rest k 0 ≡ 3 = get_or-drop 1 b k 0 ∙ ap (λ i. get_or b i 0) (sym place) ∙ p.etx in
+      let split : rest ≡ take k rest ++ (3 ∷ drop (k + 1) rest) = sym (take-append-drop k rest) ∙ ap (λ r. take k rest ++ r) (at_letter rest k 3 (omega arith) etx) in
+      let front : length (take k rest) ≡ k = length-take-le k rest (let l = p.long in omega arith) in
+      let all : n ≡ k = ap (leading not_etx) split ∙ leading_exactly not_etx (take k rest) 3 (drop (k + 1) rest) (others (take k rest) p.inside) refl ∙ front in
+      let e₁ : k + 1 ≡ length b - 2 = let l = p.long in omega arith in
+      let e₂ : k + 2 ≡ length b - 1 = let l = p.long in omega arith in
+      let e₃ : length b - 2 ≡ length b - 1 - 1 = omega arith in
+      rw (all, eq-eqb (get_or b 0 0) 2 p.stx, eq-eqb (length b) (k + 3) (let l = p.long in omega arith), e₁, e₂, eq-eqb (get_or b (length b - 2) 0) 3 p.etx, e₃)
+      (eq-eqb _ _ p.check)
 
 -- The block around bytes
 
@@ -77,38 +111,32 @@ each_block bytes h =
       eq-eqb check check refl,
     )
 
--- the tests of a block say how it is put together
+-- the parts of a block say how it is put together
 found_block : (block : List ℕ) → is_block block ≡ true → (bytes : List ℕ) × AllOf not_etx bytes × (block_around bytes ≡ block)
-unfolding is_block
 found_block block t =
-    let n = leading not_etx (drop 1 block) in
-    let bytes = take n (drop 1 block) in
-    let a = eqb (get_or block 0 0) 2 in
-    let b = eqb (length block) (n + 3) in
-    let c = eqb (get_or block (n + 1) 0) 3 in
-    let d = eqb (get_or block (n + 2) 0) (xor_from 0 (take (n + 1) (drop 1 block))) in
-    let abc = and_left (a && b && c) d t in
-    let stx = eqb-true (get_or block 0 0) 2 (and_left a b (and_left (a && b) c abc)) in
-    let size = eqb-true (length block) (n + 3) (and_right a b (and_left (a && b) c abc)) in
-    let etx = eqb-true (get_or block (n + 1) 0) 3 (and_right (a && b) c abc) in
-    let check = eqb-true (get_or block (n + 2) 0) (xor_from 0 (take (n + 1) (drop 1 block))) (and_right (a && b && c) d t) in
-    let next : n + 1 + 1 ≡ n + 2 = omega arith in
-    let rest : drop n (drop 1 block) ≡ drop (n + 1) block = drop-drop n 1 block ∙ ap (λ k. drop k block) (let e : 1 + n ≡ n + 1 = omega arith in e) in
-    let past : length block ≤ n + 2 + 1 = omega arith in
-    let tail : drop (n + 1) block ≡ 3 ∷ get_or block (n + 2) 0 ∷ [] =
-    at_letter block (n + 1) 3 (omega arith) etx
-    ∙ ap (λ k. 3 ∷ drop k block) next
-    ∙ ap (λ r. 3 ∷ r) (from_letter block (n + 2) (omega arith) ∙ ap (λ r. get_or block (n + 2) 0 ∷ r) (drop_of_length-le block past)) in
-    let part : take (n + 1) (drop 1 block) ≡ bytes ++ (3 ∷ []) =
-    ap (λ k. take k (drop 1 block)) (add-one n)
-    ∙ take-suc (drop 1 block) n 0 (let l = length-drop 1 block in omega arith)
-    ∙ ap (λ x. bytes ++ (x ∷ [])) (get_or-drop 1 block n 0 ∙ ap (λ k. get_or block k 0) (let e : 1 + n ≡ n + 1 = omega arith in e) ∙ etx) in (
+    let p = parts block t in
+    let long = p.long in
+    let rest = drop 1 block in
+    let size : length rest ≡ length block - 1 = length-drop 1 block in
+    let k = length block - 2 - 1 in
+    let bytes = take k rest in
+    let e₁ : 1 + k ≡ length block - 2 = omega arith in
+    let e₂ : 1 + (k + 1) ≡ length block - 1 = omega arith in
+    let e₃ : length block - 1 - 1 ≡ k + 1 = omega arith in
+    let past : length rest ≤ k + 1 + 1 = omega arith in
+    let etx : get_or rest k 0 ≡ 3 = get_or-drop 1 block k 0 ∙ ap (λ i. get_or block i 0) e₁ ∙ p.etx in
+    let check : get_or rest (k + 1) 0 ≡ xor_from 0 (take (k + 1) rest) =
+    get_or-drop 1 block (k + 1) 0 ∙ ap (λ i. get_or block i 0) e₂ ∙ p.check ∙ ap (λ i. xor_from 0 (take i rest)) e₃ in
+    let tail : drop k rest ≡ 3 ∷ get_or rest (k + 1) 0 ∷ [] =
+    at_letter rest k 3 (omega arith) etx
+    ∙ ap (λ r. 3 ∷ r) (from_letter rest (k + 1) (omega arith) ∙ ap (λ r. get_or rest (k + 1) 0 ∷ r) (drop_of_length-le rest past)) in
+    let part : take (k + 1) rest ≡ bytes ++ (3 ∷ []) = ap (λ i. take i rest) (add-one k) ∙ take-suc rest k 0 (omega arith) ∙ ap (λ x. bytes ++ (x ∷ [])) etx in (
       bytes,
-      leading_each not_etx (drop 1 block),
+      others bytes p.inside,
       ap (λ x. 2 ∷ bytes ++ (3 ∷ x ∷ [])) (ap (xor_from 0) (sym part) ∙ sym check)
-          ∙ ap (λ r. 2 ∷ bytes ++ r) (sym (rest ∙ tail))
-          ∙ ap (λ r. 2 ∷ r) (take-append-drop n (drop 1 block))
-          ∙ sym (at_letter block 0 2 (omega arith) stx),
+          ∙ ap (λ r. 2 ∷ bytes ++ r) (sym tail)
+          ∙ ap (λ r. 2 ∷ r) (take-append-drop k rest)
+          ∙ sym (at_letter block 0 2 (omega arith) p.stx),
     )
 
 pub block_around_bytes : BlockAroundBytes

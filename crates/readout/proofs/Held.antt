@@ -2,20 +2,16 @@
 use mathlib.Core.Path.{◌≡◌, refl, sym, ap, ◌∙◌}
 use mathlib.Core.Bool.{Bool, true, false}
 use mathlib.Core.List.{List, [], ◌∷◌}
-use Prim.Native.Nat.{ℕ, zero, suc, ◌+◌, ◌-◌, ◌*◌, ◌^◌, ◌≤◌, ◌<◌}
+use Prim.Native.Nat.{ℕ, zero, suc, ◌+◌, ◌-◌, ◌*◌, ◌^◌, ◌≤◌}
 use native.Mathlib.Nat.{pow-suc, mul_assoc}
-use native.Mathlib.Numerals.{add-one}
 use native.Mathlib.Omega.{arith}
 use borrow.Author.Tests.{leb-true, leb-false, lt-leb}
 use lib.Dec.{leb}
-use lib.ListN.{length, get_or, take, drop, drop_of_length-le}
-use lib.Seq.{drop-cons}
 use Rattle.laws.specs.Answers.{Answer, given, refused}
-use Rattle.laws.specs.Decimals.{is_digit, value_from}
-use Rattle.laws.specs.Leading.{leading}
+use Rattle.laws.specs.Decimals.{value_from}
 use Rattle.laws.proofs.Tests.{by_test}
 use Rattle.readout.specs.Numbers.{most, in32_bits}
-use Rattle.readout.specs.Held.{held, digits_read, held_answer}
+use Rattle.readout.specs.Held.{held, held_answer}
 
 -- digits behind a number that is held
 pub held_digits : (n : ℕ) (l : List ℕ) → held (value_from (held n) l) ≡ held (value_from n l)
@@ -25,31 +21,7 @@ held_digits n (b ∷ rest) =
     let e : held (held n * 10 + (b - 48)) ≡ held (n * 10 + (b - 48)) = omega arith in
     sym (held_digits (held n * 10 + (b - 48)) rest) ∙ ap (λ m. held (value_from m rest)) e ∙ held_digits (n * 10 + (b - 48)) rest
 
--- the digits in front of a text from a place on: a digit, another letter, the end
-module _ (n : ℕ) (l : List ℕ) (i : ℕ) where
-  pub read_turn : i < length l → is_digit (get_or l i 0) ≡ true
-      → (digits_read n (drop i l)).value ≡ (digits_read (held (n * 10 + (get_or l i 0 - 48))) (drop (i + 1) l)).value
-  unfolding digits_read leading value_from
-  read_turn h e =
-      rw (add-one i, drop-cons l i 0, e)
-      (sym (held_digits (n * 10 + (get_or l i 0 - 48)) (take (leading is_digit (drop (suc i) l)) (drop (suc i) l))))
-
-  pub read_stop : n ≤ 4294967295 → i < length l → is_digit (get_or l i 0) ≡ false → (digits_read n (drop i l)).value ≡ n
-  unfolding digits_read leading value_from
-  read_stop g h e = rw (drop-cons l i 0, e) (omega arith)
-
-  pub read_end : n ≤ 4294967295 → length l ≤ i → (digits_read n (drop i l)).value ≡ n
-  unfolding digits_read leading value_from
-  read_end g h = rw (drop_of_length-le l h) (omega arith)
-
--- zeros behind a number: none, and one more
-pub held_one : (n : ℕ) → n < 2 ^ 32 → n ≡ held (n * 10 ^ 0)
-held_one n h = omega arith
-
-pub held_zero : (n i value : ℕ) → value ≡ held (n * 10 ^ i) → held (value * 10 + 0) ≡ held (n * 10 ^ (i + 1))
-held_zero n i value e = rw (add-one i, pow-suc 10 i, ← mul_assoc n (10 ^ i) 10) (omega arith)
-
--- and any count of them
+-- zeros behind a number that is held: any count of them
 pub held_pow : (n j : ℕ) → held (held n * 10 ^ j) ≡ held (n * 10 ^ j)
 held_pow n zero = omega arith
 held_pow n (suc j) =

@@ -1,5 +1,4 @@
--- What the proofs of this crate share: turns of its loops, numbers that are held, the size of a number, the place of a value, blocks; the laws of specs/Laws.antt; that no second result fits.
-pub mod Turns
+-- What the proofs of this crate share: numbers that are held, the size of a number, the place of a value, blocks; the laws of specs/Laws.antt; that no second result fits.
 pub mod Held
 pub mod Sizes
 pub mod Places

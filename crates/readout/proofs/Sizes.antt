@@ -10,18 +10,17 @@ use borrow.Author.Tests.{lt-ltb, eq-eqb, ne_eqb, eqb-true, ltb-true, ltb-false}
 use lib.Dec.{ltb, eqb}
 use lib.ListN.{length, get_or, take, drop, length-take, length-drop, drop_of_length-le, take-append-drop}
 use lib.Pow.{pow-add}
-use lib.Seq.{take_all}
+use lib.Seq.{take_all, length-take-le, get_or-drop, drop-drop}
 use Rattle.laws.specs.Answers.{given, refused}
 use Rattle.laws.specs.Decimals.{is_digit, digits, value_from}
 use Rattle.laws.specs.Each.{Each}
 use Rattle.laws.specs.Leading.{leading}
 use Rattle.laws.proofs.Decimals.{value_append, value_split, value_below, value_zero, zeros_value, digits_each, each_digits}
-use Rattle.laws.proofs.Leading.{leading_all, leading_each}
+use Rattle.laws.proofs.Leading.{leading_most}
 use Rattle.laws.proofs.Each.{each_take, each_drop, each_append, each_so}
 use Rattle.laws.proofs.Tests.{by_test, and_left, and_right, and_both}
 use Rattle.readout.specs.Numbers.{is_decimal, size_of}
-use Rattle.readout.specs.Held.{held, digits_read, all_zeros, held_answer, held_size, fraction_size}
-use Rattle.readout.specs.declared.numbers.Digits.{Digits}
+use Rattle.readout.specs.Held.{held, all_zeros, held_answer, held_size, fraction_size}
 use Rattle.readout.proofs.Held.{held_digits, held_pow}
 
 -- no digit in front
@@ -31,8 +30,8 @@ no_digit u d e = rw e
 
 -- digits alone
 pub all_digits : (u : List ℕ) (d : ℕ) → (leading is_digit u ≡ 0 → ⊥) → leading is_digit u ≡ length u
-    → held_size u d ≡ given (held ((digits_read 0 u).value * 10 ^ d))
-unfolding size_of is_decimal digits_read
+    → held_size u d ≡ given (held (held (value_from 0 u) * 10 ^ d))
+unfolding size_of is_decimal
 all_digits u d h e =
     let n = length u in
     let past : length u ≤ n + 1 = omega arith in
@@ -48,12 +47,10 @@ no_point u d n e h g = rw (e, ne_eqb n (length u) (λ k. omega arith), ne_eqb _ 
 
 -- zeros: as a test, and of each
 zeros_each : (l : List ℕ) → all_zeros l ≡ true → Each (λ b. b ≡ 48) l
-unfolding all_zeros
 zeros_each [] h = tt
 zeros_each (b ∷ rest) h = (eqb-true b 48 (and_left (eqb b 48) (all_zeros rest) h), zeros_each rest (and_right (eqb b 48) (all_zeros rest) h))
 
 each_zeros : (l : List ℕ) → Each (λ b. b ≡ 48) l → all_zeros l ≡ true
-unfolding all_zeros
 each_zeros [] h = refl
 each_zeros (b ∷ rest) h = and_both (eqb b 48) (all_zeros rest) (eq-eqb b 48 h.0) (each_zeros rest h.1)
 
@@ -92,14 +89,10 @@ module _ (v : ℕ) (f : List ℕ) (d : ℕ) (some : 0 < length f) where
   second_length = length-drop p f
 
   -- all digits, and those past the decimals zeros
-  digits_all : eqb (digits_read (held v) f₁).count p ≡ true → all_zeros f₂ ≡ true → digits f ≡ true
-  unfolding digits_read
+  digits_all : digits f₁ ≡ true → all_zeros f₂ ≡ true → digits f ≡ true
   digits_all a z =
-      let n : leading is_digit f₁ ≡ p = eqb-true _ _ a in
-      let t : take (leading is_digit f₁) f₁ ≡ f₁ = take_all (leading is_digit f₁) f₁ (rw n (rw first_length (omega arith))) in
-      let h : Each (λ b. is_digit b ≡ true) f₁ = rw t at (leading_each is_digit f₁) in
       let g : Each (λ b. is_digit b ≡ true) f₂ = each_so (λ b. b ≡ 48) (λ b. is_digit b ≡ true) (λ b e. rw e) f₂ (zeros_each f₂ z) in
-      each_digits f (rw whole_list at (each_append (λ b. is_digit b ≡ true) f₁ f₂ h g))
+      each_digits f (rw whole_list at (each_append (λ b. is_digit b ≡ true) f₁ f₂ (digits_each f₁ a) g))
 
   value_of : value_from v f ≡ value_from v f₁ * 10 ^ length f₂ + value_from 0 f₂
   value_of = ap (value_from v) (sym whole_list) ∙ value_append v f₁ f₂ ∙ value_split (value_from v f₁) f₂
@@ -137,36 +130,28 @@ module _ (v : ℕ) (f : List ℕ) (d : ℕ) (some : 0 < length f) where
       let one : r * 1 ≤ r * 10 ^ p = mul-le-mul_left r (one-le-pow p 10 (omega arith)) in
       ne_eqb (exact % 10 ^ length f) 0 (λ t. more (omega arith))
 
-  -- the digits up to the decimals
-  read_first : Each (λ b. is_digit b ≡ true) f → digits_read (held v) f₁ ≡ record { count = p; value = held (value_from v f₁) }
-  unfolding digits_read
-  read_first h =
-      let n : leading is_digit f₁ ≡ length f₁ = leading_all is_digit f₁ (each_take (λ b. is_digit b ≡ true) p f h) in
-      let t : take (length f₁) f₁ ≡ f₁ = take_all (length f₁) f₁ (omega arith) in
-      rw (n, t, held_digits v f₁, first_length)
-
   pub fraction : held_answer (if digits f && eqb (exact % 10 ^ length f) 0 then given (exact / 10 ^ length f) else refused 18 0) ≡ fraction_size (held v) f d
   unfolding fraction_size
   fraction =
       by_test (digits f)
       (λ t.
       let h = digits_each f t in
-      let at_once : eqb p p ≡ true = eq-eqb p p refl in
+      let first : digits f₁ ≡ true = each_digits f₁ (each_take (λ b. is_digit b ≡ true) p f h) in
       by_test (all_zeros f₂)
       (λ z.
       let e = exact_whole z in
       let o : 0 < 10 ^ length f = one-le-pow (length f) 10 (omega arith) in
-      rw (t, read_first h, lt-ltb 0 (length f) some, at_once, z, e, mul-mod_left (value_from v f₁ * 10 ^ (d - p)) (10 ^ length f), mul-div_cancel (value_from v f₁ * 10 ^ (d - p)) o)
+      rw (t, first, held_digits v f₁, lt-ltb 0 (length f) some, z, e, mul-mod_left (value_from v f₁ * 10 ^ (d - p)) (10 ^ length f), mul-div_cancel (value_from v f₁ * 10 ^ (d - p)) o)
       (ap given (sym (held_pow (value_from v f₁) (d - p)))))
-      (λ z. rw (t, exact_rest h z, read_first h, lt-ltb 0 (length f) some, at_once, z)))
+      (λ z. rw (t, exact_rest h z, first, lt-ltb 0 (length f) some, z)))
       (λ t.
       rw (t, lt-ltb 0 (length f) some)
-      (by_test (eqb (digits_read (held v) f₁).count p) (λ a. by_test (all_zeros f₂) (λ z. absurd (true≢false (sym (digits_all a z) ∙ t))) (λ z. rw (a, z))) (λ a. rw a)))
+      (by_test (digits f₁) (λ a. by_test (all_zeros f₂) (λ z. absurd (true≢false (sym (digits_all a z) ∙ t))) (λ z. rw (a, z))) (λ a. rw a)))
 
 -- a point behind the digits
 pub behind : (u : List ℕ) (d n : ℕ) → leading is_digit u ≡ n → (n ≡ 0 → ⊥) → n < length u → get_or u n 0 ≡ 46
-    → held_size u d ≡ fraction_size (digits_read 0 u).value (drop (n + 1) u) d
-unfolding size_of is_decimal digits_read fraction_size
+    → held_size u d ≡ fraction_size (held (value_from 0 (take n u))) (drop (n + 1) u) d
+unfolding size_of is_decimal fraction_size
 behind u d n e z h g =
     let f = drop (n + 1) u in
     let l : length f ≡ length u - (n + 1) = length-drop (n + 1) u in
@@ -180,15 +165,52 @@ behind u d n e z h g =
     let none : f ≡ [] = drop_of_length-le u k in
     rw (e, lt-ltb 0 n (omega arith), ne_eqb n (length u) (λ k. omega arith), eq-eqb (get_or u n 0) 46 g, t, none))
 
--- the size of what stands behind a point, by the digits that the code has read
-pub by_read : (n : ℕ) (text : List ℕ) (d places : ℕ) (read : Digits) → places ≡ min (length text) d → read ≡ digits_read n (take places text) → 0 < length text
-    → fraction_size n text d ≡ (if eqb read.count places && all_zeros (drop places text) then given (held (read.value * 10 ^ (d - places))) else refused 18 0)
+-- the size of what stands behind a point, by the parts that the code has split it into
+pub by_parts : (n : ℕ) (text : List ℕ) (d places : ℕ) (first rest : List ℕ) → places ≡ min (length text) d → first ≡ take places text → rest ≡ drop places text → 0 < length text
+    → fraction_size n text d ≡ (if digits first && all_zeros rest then given (held (held (value_from n first) * 10 ^ (d - places))) else refused 18 0)
 unfolding fraction_size
-by_read n text d places read e r some = rw (← e, ← r, lt-ltb 0 (length text) some)
+by_parts n text d places first rest e f g some = rw (f, g, e, lt-ltb 0 (length text) some)
 
 -- what stands from a place on
 pub from_there : (text : List ℕ) (n : ℕ) → n ≤ length text → take (length text - n) (drop n text) ≡ drop n text
 from_there text n h = take_all (length text - n) (drop n text) (rw length-drop (omega arith))
+
+-- a text split behind its digits: there are none; nothing follows them; a point does; another letter does
+module _ (u : List ℕ) (d n : ℕ) (whole rest : List ℕ) (count : n ≡ leading is_digit u) (front : whole ≡ take n u) (back : rest ≡ drop n u) where
+  enough : n ≤ length u
+  enough = let m = leading_most is_digit u in omega arith
+
+  long : length whole ≡ n
+  long = rw front (length-take-le n u enough)
+
+  left : length rest ≡ length u - n
+  left = rw back (length-drop n u)
+
+  at : get_or rest 0 0 ≡ get_or u n 0
+  at = rw back (get_or-drop n u 0 0 ∙ ap (λ k. get_or u k 0) (let e : n + 0 ≡ n = omega arith in e))
+
+  pub split_none : length whole ≡ 0 → held_size u d ≡ refused 18 0
+  split_none e = no_digit u d (let l = long in omega arith)
+
+  module _ (some : length whole ≡ 0 → ⊥) where
+    digit : leading is_digit u ≡ 0 → ⊥
+    digit e = some (long ∙ count ∙ e)
+
+    pub split_all : length rest < 1 → held_size u d ≡ given (held (held (value_from 0 whole) * 10 ^ d))
+    split_all h =
+        let l = left in
+        let m = enough in
+        let all : whole ≡ u = rw front (take_all n u (omega arith)) in
+        rw all (all_digits u d digit (omega arith))
+
+    pub split_point : 1 ≤ length rest → get_or rest 0 0 ≡ 46 → held_size u d ≡ fraction_size (held (value_from 0 whole)) (drop 1 rest) d
+    split_point h e =
+        let l = left in
+        let next : drop 1 rest ≡ drop (n + 1) u = rw back (drop-drop 1 n u) in
+        rw (front, next) (behind u d n (sym count) (λ z. digit (sym count ∙ z)) (omega arith) (sym at ∙ e))
+
+    pub split_other : 1 ≤ length rest → (get_or rest 0 0 ≡ 46 → ⊥) → held_size u d ≡ refused 18 0
+    split_other h e = let l = left in no_point u d n (sym count) (omega arith) (λ z. e (at ∙ z))
 
 -- nothing stands there
 pub no_read : (n : ℕ) (text : List ℕ) (d : ℕ) → length text ≡ 0 → fraction_size n text d ≡ refused 18 0

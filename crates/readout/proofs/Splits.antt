@@ -1,9 +1,9 @@
 -- Each line is the line of at most one data set, and the place of the value is found exactly where there is one (specs/Laws.antt, OneSplit).
 use Rattle.std.specs.Prelude.{if◌then◌else◌}
 use mathlib.Core.Path.{◌≡◌, refl, sym, ap, ◌∙◌}
-use mathlib.Core.Bool.{true, false, ◌&&◌}
+use mathlib.Core.Bool.{true, ◌&&◌}
 use mathlib.Core.List.{List, [], ◌∷◌, ◌++◌}
-use Prim.Native.Nat.{ℕ, ◌+◌, ◌-◌, ◌≤◌}
+use Prim.Native.Nat.{ℕ, ◌+◌, ◌≤◌}
 use native.Mathlib.Nat.{not-suc-le-zero}
 use native.Mathlib.Omega.{arith}
 use borrow.Author.Tests.{le-leb, eq-eqb, leb-true, eqb-true}
@@ -16,9 +16,10 @@ use Rattle.laws.proofs.Answers.{by_answer}
 use Rattle.laws.proofs.Leading.{leading_exactly, leading_most, leading_each}
 use Rattle.laws.proofs.Suffixes.{head_at, next_at, length_at, over_at, at_letter}
 use Rattle.laws.proofs.Tests.{by_test, and_left, and_right, and_both, or_right}
-use Rattle.readout.specs.DataSets.{AllOf, DataSet, address_letter, value_letter, starred, line_of, IsDataSet, Place, between, closes_at, letters_at, ends_at, value_place}
+use Rattle.readout.specs.declared.data_sets.Place.{Place}
+use Rattle.readout.specs.DataSets.{AllOf, DataSet, address_letter, value_letter, starred, line_of, IsDataSet, between, closes_at, letters_at, ends_at, value_place}
 use Rattle.readout.specs.Laws.{Found, OneSplit}
-use Rattle.readout.proofs.Places.{ends_closed, ends_starred, place_from, found, only_17}
+use Rattle.readout.proofs.Places.{place_from, found, only_17}
 
 -- From a data set to its place
 
@@ -26,24 +27,18 @@ use Rattle.readout.proofs.Places.{ends_closed, ends_starred, place_from, found, 
 in_bounds : (least most n : ℕ) → least ≤ n → n ≤ most → between least most n ≡ true
 in_bounds least most n h g = and_both (leb least n) (leb n most) (le-leb least n h) (le-leb n most g)
 
--- behind the value of a line from a place on: its unit
-module _ (line : List ℕ) (at : ℕ) where
-  ends_of_lem : (unit : List ℕ) → AllOf value_letter unit → length unit ≤ 16 → drop at line ≡ starred unit ++ (41 ∷ []) → ends_at line at ≡ true
-  ends_of_lem [] h l e =
-      ends_closed line at
-      (and_both (eqb (get_or line at 0) 41) (eqb (length line) (at + 1)) (eq-eqb _ 41 (head_at line at 41 [] e)) (eq-eqb (length line) (at + 1) (length_at line at 41 [] e)))
-  ends_of_lem (b ∷ rest) h l e =
-      let unit = b ∷ rest in
-      let star = head_at line at 42 (unit ++ (41 ∷ [])) e in
-      let from = next_at line at 42 (unit ++ (41 ∷ [])) e in
-      let n : letters_at line (at + 1) ≡ length unit = ap (leading value_letter) from ∙ leading_exactly value_letter unit 41 [] h refl in
-      let end = at + 1 + length unit in
-      let last = over_at line (at + 1) unit (41 ∷ []) from in
-      let closed : closes_at line end ≡ true =
-      and_both (eqb (get_or line end 0) 41) (eqb (length line) (end + 1)) (eq-eqb _ 41 (head_at line end 41 [] last)) (eq-eqb (length line) (end + 1) (length_at line end 41 [] last)) in
-      let other : closes_at line at ≡ false = rw star in
-      let size : end - (at + 1) ≡ length unit = omega arith in
-      ends_starred line at end other star (ap (λ k. at + 1 + k) (sym n)) ∙ rw (size, in_bounds 1 16 (length unit) (omega arith) l, closed)
+-- behind a value: a unit, if there is one, and the closing bracket
+ends_of_lem : (unit : List ℕ) → AllOf value_letter unit → length unit ≤ 16 → ends_at (starred unit ++ (41 ∷ [])) 0 ≡ true
+unfolding ends_at
+ends_of_lem [] h l = refl
+ends_of_lem (b ∷ rest) h l =
+    let unit = b ∷ rest in
+    let line = 42 ∷ unit ++ (41 ∷ []) in
+    let end = 1 + length unit in
+    let last : drop end line ≡ 41 ∷ [] = over_at line 1 unit (41 ∷ []) refl in
+    let closed : closes_at line end ≡ true =
+    and_both (eqb (get_or line end 0) 41) (eqb (length line) (end + 1)) (eq-eqb _ 41 (head_at line end 41 [] last)) (eq-eqb (length line) (end + 1) (length_at line end 41 [] last)) in
+    rw (leading_exactly value_letter unit 41 [] h refl, in_bounds 1 16 (length unit) (omega arith) l, closed)
 
 -- a letter that no value has begins what stands behind it
 behind_value : (value unit : List ℕ) → AllOf value_letter value → leading value_letter (value ++ (starred unit ++ (41 ∷ []))) ≡ length value
@@ -64,20 +59,20 @@ module _ (d : DataSet) (r : IsDataSet d) where
   pub value_from_lem : drop (length d.address + 1) (line_of d) ≡ tail
   value_from_lem = next_at (line_of d) (length d.address) 40 tail bracket_from
 
-  value_is : letters_at (line_of d) (length d.address + 1) ≡ length d.value
-  value_is = ap (leading value_letter) value_from_lem ∙ behind_value d.value d.unit r.value_letters
-
-  unit_from : drop (length d.address + 1 + length d.value) (line_of d) ≡ starred d.unit ++ (41 ∷ [])
-  unit_from = over_at (line_of d) (length d.address + 1) d.value (starred d.unit ++ (41 ∷ [])) value_from_lem
-
   pub each_found : value_place (line_of d) ≡ given (record { start = length d.address + 1; length = length d.value })
   each_found =
       let a = length d.address in
-      let end = a + 1 + length d.value in
-      let size : end - (a + 1) ≡ length d.value = omega arith in
-      let ends = ends_of_lem (line_of d) end d.unit r.unit_letters r.unit_length unit_from in
-      place_from (line_of d) a address_is end r.address_length (head_at (line_of d) a 40 tail bracket_from) (ap (λ k. a + 1 + k) (sym value_is))
-      ∙ rw (size, in_bounds 1 32 (length d.value) r.value_length.0 r.value_length.1, ends)
+      let behind = starred d.unit ++ (41 ∷ []) in
+      place_from (line_of d) (rw address_is (head_at (line_of d) a 40 tail bracket_from))
+      ∙ rw (
+        address_is,
+        value_from_lem,
+        behind_value d.value d.unit r.value_letters,
+        drop-append_seam d.value behind,
+        le-leb a 16 r.address_length,
+        in_bounds 1 32 (length d.value) r.value_length.0 r.value_length.1,
+        ends_of_lem d.unit r.unit_letters r.unit_length,
+      )
 
 -- From a line to its data set
 

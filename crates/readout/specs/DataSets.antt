@@ -4,6 +4,7 @@ use Rattle.std.specs.Prelude.{◌≡◌, Bool, true, false, not, ◌&&◌, ◌||
 use Rattle.laws.specs.Answers.{Answer, given, refused}
 use Rattle.laws.specs.Each.{Each}
 use Rattle.laws.specs.Leading.{leading}
+use Rattle.readout.specs.declared.data_sets.Place.{Place}
 
 -- A data set, taken apart
 
@@ -49,11 +50,6 @@ pub record IsDataSet (d : DataSet) : Type 0 where
   pub unit_length : length d.unit ≤ 16
 
 -- Where the value stands in a line
-
--- a place in a line, and how many letters stand there
-pub record Place : Type 0 where
-  pub start : ℕ
-  pub length : ℕ
 
 -- a count from `least` to `most`
 abbrev pub between : ℕ → ℕ → ℕ → Bool

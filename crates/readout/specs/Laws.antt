@@ -1,7 +1,8 @@
 -- What is proved of data sets, numbers and blocks: what is found is what the rules say, and nothing else fits.
 use Rattle.std.specs.Prelude.{◌≡◌, true, false, List, ◌⊎◌, ℕ, ◌+◌, ◌≤◌, ◌<◌, ℤ, length, get_or, take, drop, set}
 use Rattle.laws.specs.Answers.{given, refused}
-use Rattle.readout.specs.DataSets.{AllOf, DataSet, line_of, IsDataSet, Place, value_place}
+use Rattle.readout.specs.declared.data_sets.Place.{Place}
+use Rattle.readout.specs.DataSets.{AllOf, DataSet, line_of, IsDataSet, value_place}
 use Rattle.readout.specs.Numbers.{Decimal, text_of, IsDecimal, Is, in32_bits, whole_number, Fits32, written_with}
 use Rattle.readout.specs.Blocks.{not_etx, block_around, is_block}
 use Rattle.readout.specs.Answers.{line_number}

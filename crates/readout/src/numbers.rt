@@ -1,182 +1,99 @@
 // The whole number of a text, with a stated count of decimals.
-ghost use Rattle.std.specs.Prelude.{◌≡◌, ◌+◌, ◌*◌, ◌^◌, ◌≤◌, min, pos, neg_ℤ, true, false};
-ghost use Rattle.laws.specs.Decimals.{is_digit};
+ghost use Rattle.std.specs.Prelude.{◌≡◌, ◌+◌, ◌*◌, ◌^◌};
+ghost use Rattle.laws.specs.Decimals.{digits, value_from};
 ghost use Rattle.readout.specs.Numbers.{in32_bits, whole_number};
 ghost use Rattle.readout.specs.Answers.{number_said};
-ghost use Rattle.readout.specs.Held.{held, all_zeros, digits_read, size_said, held_size, fraction_size};
+ghost use Rattle.readout.specs.Held.{held, all_zeros, size_said, held_size, fraction_size};
 
-#[derive(Clone, Copy)]
-pub enum NumberAnswer {
-    Is(i32),
+use crate::leading;
+
+#[derive(Clone, Copy, Debug, PartialEq, Eq)]
+pub enum NumberError {
     NotANumber,
     DoesNotFit,
 }
 
-// The digits in front of a text: how many there are, and the number that they make, held at 4,294,967,295.
-#[derive(Clone, Copy)]
-struct Digits {
-    count: usize,
-    value: u32,
-}
-
-// A number without its sign, held at 4,294,967,295, which does not fit.
-#[derive(Clone, Copy)]
-enum Size {
-    Is(u32),
-    NotANumber,
-}
-
-fn is_digit(b: u8) -> bool
-    ensures { result ≡ is_digit b }
-{
-    (48 <= b) & (b <= 57)
-}
-
-// n with one digit more.
+// n with one digit more, held at 4,294,967,295. That does not fit 32 bits with a sign, so which one is held makes no difference.
 fn with_digit(n: u32, digit: u8) -> u32
     ensures { result ≡ held (n * 10 + digit) }
 {
-    let next = (n as u64) * 10 + (digit as u64);
-    if next < 4294967295 {
-        return next as u32;
-    }
-    4294967295
+    n.saturating_mul(10).saturating_add(u32::from(digit))
 }
 
-// The digits in front of a text, behind those of n.
-fn read_digits(text: &[u8], n: u32) -> Digits
-    ensures { result ≡ digits_read n text.now }
+// n with digits behind it.
+fn with_digits(n: u32, digits: &[u8]) -> u32
+    ensures { result ≡ held (value_from n digits.now) }
 {
-    let mut value = n;
-    let mut i = 0;
-    while i < text.len() {
-        let b = text[i];
-        if !is_digit(b) {
-            return Digits { count: i, value };
-        }
-        value = with_digit(value, b - 48);
-        i += 1;
-    }
-    Digits { count: i, value }
+    digits
+        .iter()
+        .fold(n, |n, b| with_digit(n, b.saturating_sub(b'0')))
 }
 
 // n with zeros behind it.
 fn with_zeros(n: u32, count: u8) -> u32
     ensures { result ≡ held (n * 10 ^ count) }
 {
-    let mut value = n;
-    for i in 0..count {
-        value = with_digit(value, 0);
-    }
-    value
+    n.saturating_mul(10u32.saturating_pow(u32::from(count)))
+}
+
+fn all_digits(text: &[u8]) -> bool
+    ensures { result ≡ digits text.now }
+{
+    text.iter().all(|b| b.is_ascii_digit())
 }
 
 fn all_zeros(text: &[u8]) -> bool
     ensures { result ≡ all_zeros text.now }
 {
-    for i in 0..text.len() {
-        if text[i] != b'0' {
-            return false;
-        }
-    }
-    true
-}
-
-fn lesser(length: usize, decimals: u8) -> u8
-    ensures { result ≡ min (length) decimals }
-{
-    if length < decimals as usize {
-        return length as u8;
-    }
-    decimals
+    text.iter().all(|b| *b == b'0')
 }
 
 // The number whose digits before the point make n, and `text` stands behind the point. Digits past the decimals have to be zeros.
-fn with_fraction(n: u32, text: &[u8], decimals: u8) -> Size
+fn with_fraction(n: u32, text: &[u8], decimals: u8) -> Option<u32>
     ensures { size_said result ≡ fraction_size n text.now decimals }
 {
-    if text.len() == 0 {
-        return Size::NotANumber;
+    let places = text.len().min(usize::from(decimals));
+    let (digits, zeros) = text.split_at(places);
+    if text.is_empty() || !all_digits(digits) || !all_zeros(zeros) {
+        return None;
     }
-    let places = lesser(text.len(), decimals);
-    let used = places as usize;
-    let read = read_digits(&text[..used], n);
-    if read.count != used {
-        return Size::NotANumber;
-    }
-    if !all_zeros(&text[used..]) {
-        return Size::NotANumber;
-    }
-    Size::Is(with_zeros(read.value, decimals - places))
+    Some(with_zeros(with_digits(n, digits), decimals - places as u8))
 }
 
 // The number without its sign.
-fn size_of(text: &[u8], decimals: u8) -> Size
+fn size_of(text: &[u8], decimals: u8) -> Option<u32>
     ensures { size_said result ≡ held_size text.now decimals }
 {
-    let whole = read_digits(text, 0);
-    let count = whole.count;
-    if count == 0 {
-        return Size::NotANumber;
+    let (whole, rest) = text.split_at(leading(text, |b| b.is_ascii_digit()));
+    if whole.is_empty() {
+        return None;
     }
-    if count == text.len() {
-        return Size::Is(with_zeros(whole.value, decimals));
-    }
-    if text[count] != b'.' {
-        return Size::NotANumber;
-    }
-    let point = count + 1;
-    with_fraction(whole.value, &text[point..], decimals)
-}
-
-// -n. Of n - 1, `!` is -n.
-fn negative(n: u32) -> i32
-    requires { n ≤ 2147483648 }
-    ensures { result ≡ neg_ℤ (pos n) }
-{
-    if n == 0 { 0 } else { !((n - 1) as i32) }
-}
-
-fn below_zero(size: Size) -> NumberAnswer
-    ensures { number_said result ≡ in32_bits true (size_said size) }
-{
-    match size {
-        Size::Is(n) => {
-            if 2147483648 < n {
-                return NumberAnswer::DoesNotFit;
-            }
-            NumberAnswer::Is(negative(n))
-        }
-        Size::NotANumber => NumberAnswer::NotANumber,
+    let n = with_digits(0, whole);
+    match rest {
+        [] => Some(with_zeros(n, decimals)),
+        [b'.', fraction @ ..] => with_fraction(n, fraction, decimals),
+        _ => None,
     }
 }
 
-fn from_zero(size: Size) -> NumberAnswer
-    ensures { number_said result ≡ in32_bits false (size_said size) }
+// A size with its sign, if it fits.
+fn signed(minus: bool, size: Option<u32>) -> Result<i32, NumberError>
+    ensures { number_said result ≡ in32_bits minus (size_said size) }
 {
-    match size {
-        Size::Is(n) => {
-            if 2147483647 < n {
-                return NumberAnswer::DoesNotFit;
-            }
-            NumberAnswer::Is(n as i32)
-        }
-        Size::NotANumber => NumberAnswer::NotANumber,
-    }
+    let z = i64::from(size.ok_or(NumberError::NotANumber)?);
+    i32::try_from(if minus { -z } else { z }).map_err(|_| NumberError::DoesNotFit)
 }
 
 // The whole number that a text is. Whether it is a number at all is known before its size is looked at.
-pub fn whole_number(text: &[u8], decimals: u8) -> NumberAnswer
+pub fn whole_number(text: &[u8], decimals: u8) -> Result<i32, NumberError>
     ensures { number_said result ≡ whole_number text.now decimals }
 {
     if 9 < decimals {
-        return NumberAnswer::NotANumber;
+        return Err(NumberError::NotANumber);
     }
-    if text.len() == 0 {
-        return NumberAnswer::NotANumber;
+    match text {
+        [] => Err(NumberError::NotANumber),
+        [b'-', digits @ ..] => signed(true, size_of(digits, decimals)),
+        _ => signed(false, size_of(text, decimals)),
     }
-    if text[0] == b'-' {
-        return below_zero(size_of(&text[1..], decimals));
-    }
-    from_zero(size_of(text, decimals))
 }

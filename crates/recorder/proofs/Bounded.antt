@@ -1,27 +1,25 @@
 -- Level 0 keeps its bound in every state that calls can reach with a good configuration: by induction over the calls. So its hold never acts.
-use mathlib.Core.Path.{◌≡◌, refl, ◌∙◌}
-use mathlib.Core.Bool.{Bool, true, false, ◌&&◌, ◌||◌}
+use mathlib.Core.Path.{◌≡◌, refl}
+use mathlib.Core.Bool.{Bool, true, false}
 use mathlib.Core.List.{List, [], ◌∷◌}
-use mathlib.Core.Logic.{⊎_elim}
-use Prim.Native.Nat.{ℕ, suc, ◌+◌, ◌*◌, ◌-◌, ◌/◌, ◌%◌, ◌<◌, ◌≤◌}
-use native.Mathlib.Nat.{mod-lt, mod_self, mul-one, suc-mul, add-mul-mod_self_left, div-add-mod, div-lt_iff_lt-mul, add-sub_of_le, eq-or-lt_of_le, le_refl, le_of_eq, le_of_lt, le_of_suc-le-suc, mul-le-mul_left}
+use Prim.Native.Nat.{ℕ, suc, ◌+◌, ◌*◌, ◌-◌, ◌%◌, ◌<◌, ◌≤◌}
+use native.Mathlib.Nat.{mod-lt, mod_self, mul-one, suc-mul, add-mul-mod_self_left, div-add-mod, div-lt_iff_lt-mul, add-sub_of_le, le_of_eq, le_of_suc-le-suc, mul-le-mul_left}
 use native.Mathlib.Omega.{arith}
-use lib.Dec.{ltb, leb, eqb}
+use lib.Dec.{leb, eqb}
 use lib.IntN.{ℤ}
 use lib.ListN.{get_or-replicate}
-use borrow.Author.Tests.{ltb-true, leb-true, eqb-true, eqb-false, ne_eqb, le-ltb}
+use borrow.Author.Tests.{leb-true, eqb-false}
 use Rattle.laws.proofs.If.{if_cases}
-use Rattle.laws.proofs.Tests.{by_test, and_left, and_right, or_right}
-use Rattle.laws.proofs.Keys.{key_holds}
+use Rattle.std.proofs.lemmas.Bool.Decides.{nat_tests}
 use Rattle.laws.specs.Answers.{Answer, given, refused, reply_to}
 use Rattle.laws.specs.Masks.{bit_at}
 use Rattle.calendar.specs.Moments.{moment_of}
 use Rattle.calendar.specs.declared.Moment.{Moment}
-use Rattle.settings.specs.Rules.{periods, period_good, input_good, runs_good, ratio_good, six_zeros}
+use Rattle.settings.specs.Rules.{period_good, input_good}
 use Rattle.settings.specs.Check.{sections}
 use Rattle.settings.specs.declared.Config.{Config}
 use Rattle.settings.specs.declared.Input.{Input}
-use Rattle.counting.specs.Filter.{input_at, line_at, accepted}
+use Rattle.counting.specs.Filter.{input_at, line_at}
 use Rattle.counting.specs.Units.{units_of, held_sum}
 use Rattle.sampling.specs.Periods.{multiple, begun_anew, cleared_lines, tick_of}
 use Rattle.sampling.specs.Samples.{booking_of, active_lines, booking_on, put_in, counted_of, clock_end, sample_of}
@@ -35,29 +33,15 @@ use Rattle.sampling.specs.declared.State.{State}
 use Rattle.recorder.specs.declared.Recorder.{Recorder}
 use Rattle.recorder.specs.declared.Setup.{Setup}
 use Rattle.counting.proofs.Lines.{passed, passed_units, line_after}
-use Rattle.recorder.proofs.Sound.{cleared_at, config_stays, reached_is_sound}
+use Rattle.recorder.proofs.Sound.{cleared_at, no_line, config_stays, reached_is_sound}
 
 -- a good period is 1 to 60 minutes
 good_period : (p : ℕ) → period_good p ≡ true → (0 < p) × (p ≤ 60)
-good_period p e =
-    let good = key_holds (λ k. (leb 1 k && leb k 60) ≡ true) periods p (refl, (refl, (refl, (refl, (refl, (refl, (refl, (refl, (refl, (refl, (refl, (refl, tt)))))))))))) e in
-    (leb-true 1 p (and_left (leb 1 p) (leb p 60) good), leb-true p 60 (and_right (leb 1 p) (leb p 60) good))
+good_period p e = grind (arith, nat_tests)
 
 -- the numerator of a good input is at most 10,000
 good_numerator : (x : Input) → input_good x ≡ true → x.numerator ≤ 10_000
-good_numerator x e =
-    let runs = eqb x.shortest 0 && eqb x.longest 0 in
-    let above = leb 1 x.numerator in
-    let ratio = above && leb x.numerator 10_000 in
-    let fitted = (eqb x.kind 1 || eqb x.kind 2) && runs_good x in
-    by_test (eqb x.kind 0 && six_zeros x)
-    (λ z.
-    let zeros = and_left (runs && eqb x.numerator 0) (eqb x.denominator 0) (and_right (eqb x.kind 0) (six_zeros x) z) in
-    let none = eqb-true x.numerator 0 (and_right runs (eqb x.numerator 0) zeros) in omega arith)
-    (λ z.
-    let good = and_right fitted (ratio_good x) (or_right (eqb x.kind 0 && six_zeros x) (fitted && ratio_good x) z e) in
-    let one = and_left ratio (leb 1 x.denominator) (and_left (ratio && leb 1 x.denominator) (leb x.denominator 10_000) good) in
-    leb-true x.numerator 10_000 (and_right above (leb x.numerator 10_000) one))
+good_numerator x e = grind (arith, nat_tests)
 
 -- an impulse brings no more units than the numerator
 few_units : (input : Input) (remainder : ℕ) → (0 < input.denominator → remainder < input.denominator) → units_of input remainder ≤ input.numerator
@@ -75,12 +59,7 @@ few_units input remainder below =
 
 -- a second within the period, whose next second is no multiple, is followed by one within the period
 next_within : (P first clock : ℕ) → 0 < P → clock + first % P < first + P → ((clock + 1) % P ≡ 0 → ⊥) → (clock + 1) + first % P < first + P
-next_within P first clock some h none =
-    ⊎_elim
-    (λ e. absurd (none (
-    let whole : clock + 1 ≡ P + P * (first / P) = omega (arith, div-add-mod first P) in
-    rw whole (add-mul-mod_self_left P P (first / P) ∙ mod_self P))))
-    (λ l. l) (eq-or-lt_of_le (let g : (clock + 1) + first % P ≤ first + P = omega arith in g))
+next_within P first clock some h none = grind (arith, div-add-mod, add-mul-mod_self_left, mod_self)
 
 -- the samples counted so far in a period that began on time, each with at most 10,000 units
 record Filled (c : Config) (s : State) (samples : ℕ) : Type 0 where
@@ -115,22 +94,17 @@ cleared_none lines i l = rw (cleared_at lines i l) refl
 -- a time that is no multiple of the period's seconds
 no_multiple : (period time : ℕ) → 0 < period → multiple period time ≡ false → time % (period * 60) ≡ 0 → ⊥
 unfolding multiple
-no_multiple period time some e =
-    let ne : period * 60 ≡ 0 → ⊥ = λ z. omega arith in
-    eqb-false (time % (period * 60)) 0 (rw (ne_eqb (period * 60) 0 ne) at e)
+no_multiple period time some e = grind (arith, nat_tests)
 
 -- a held sum is no more than the sum
 held_most : (units more : ℕ) → held_sum units more ≤ units + more
-held_most units more = if_cases (λ n. n ≤ units + more) (ltb 4_294_967_295 (units + more)) (λ e. le_of_lt (ltb-true 4_294_967_295 (units + more) e)) (λ e. le_refl (units + more))
+held_most units more = grind (arith, nat_tests)
 
 -- a sample brings at most 10,000 units to level 0 of a line
 passed_most : (input : Input) (line : Line) (on : Bool) → (0 < input.denominator → line.remainder < input.denominator)
     → input.numerator ≤ 10_000 → (passed input line on).units ≤ line.units + 10_000
 passed_most input line on below h =
-    rw (passed_units input line on)
-    (if_cases (λ n. n ≤ line.units + 10_000) (accepted input line on)
-    (λ t. omega (arith, held_most line.units (units_of input line.remainder), few_units input line.remainder below))
-    (λ f. omega arith))
+    rw (passed_units input line on) (grind (arith, nat_tests, held_most, few_units))
 
 module _ (c : Config) (w : Within c) where
   -- a state with a sample booked and not yet counted
@@ -223,10 +197,6 @@ after_filled r (reading meter value status seq) w h f =
     reading_filled r.config w r.state f meter value status seq (reading_answer r.config r.state meter status seq)
 after_filled r reset w h f = reset_filled r.config w r.state f
 
--- a line with nothing on it
-abbrev no_line : Line
-no_line = record { run = 0; rejected = 0; remainder = 0; units = 0 }
-
 -- a fresh state
 fresh_filled : (c : Config) → Within c → (time : ℕ) → Filled c (fresh_state time) 0
 unfolding fresh_state
@@ -270,4 +240,4 @@ hold_never_acts setup length c good time calls i l =
     let units = b.units i l in
     let more = few_units (input_at c.inputs i) (line_at s.lines i).remainder ((reached_is_sound setup length c time calls).lines.remainders i l) in
     let numerator = w.numerators i l in
-    rw (le-ltb 4_294_967_295 ((line_at s.lines i).units + units_of (input_at c.inputs i) (line_at s.lines i).remainder) (omega arith)) refl
+    grind (arith, nat_tests)

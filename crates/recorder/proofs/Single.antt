@@ -1,29 +1,39 @@
--- A call with one sample.
-use mathlib.Core.Path.{◌≡◌, refl}
-use mathlib.Core.List.{[], ◌∷◌, ◌++◌, append-nil}
+-- A run of one sample is the sample.
+use mathlib.Core.Path.{◌≡◌, refl, ap₂}
+use mathlib.Core.List.{List, [], ◌∷◌, ◌++◌, append-nil}
 use Prim.Native.Nat.{ℕ}
-use Rattle.laws.specs.Answers.{Answer, given, refused, RunReply, reply_to}
+use lib.ListN.{length}
+use Rattle.laws.proofs.Tests.{by_test}
+use Rattle.laws.specs.Answers.{Answer, given, refused, Reply, RunReply, reply_to}
 use Rattle.settings.specs.declared.Config.{Config}
+use Rattle.profile.specs.Room.{as_at_start, kept, with_records}
 use Rattle.sampling.specs.Samples.{onward, sample_of, samples_of}
 use Rattle.sampling.specs.Closed.{closed_by, closed_on, closed_in}
+use Rattle.sampling.specs.declared.Period.{Period}
 use Rattle.sampling.specs.declared.State.{State}
+use Rattle.recorder.specs.Profile.{records_of, WithBuffer, with_buffer}
+use Rattle.recorder.specs.Calls.{beside, sample_lent, samples_lent}
+use Rattle.recorder.specs.declared.Recorder.{Recorder}
 
--- a run of one sample is the sample
-pub one_sample : (c : Config) (s : State) (bits : ℕ) (r : RunReply State) → r ≡ samples_of c s (bits ∷ [])
-    → record { number = r.number; after = r.after } ≡ reply_to s (sample_of c s bits)
-unfolding samples_of
-one_sample c s bits r e = rw e (first_of s (sample_of c s bits))
-  where
-    first_of : (s : State) (a : Answer State)
-        → record { number = (onward s a (λ next. record { taken = 0; number = 0; after = next })).number; after = (onward s a (λ next. record { taken = 0; number = 0; after = next })).after } ≡ reply_to s a
-    first_of s (given next) = refl
-    first_of s (refused n offset) = refl
+-- what is said of a run, without the count
+abbrev pub uncounted : {S : Type 0} → RunReply S → Reply S
+uncounted r = record { number = r.number; after = r.after }
 
--- it closes the sample's period
-pub one_period : (c : Config) (s : State) (bits : ℕ) → closed_in c s (bits ∷ []) ≡ closed_by c (sample_of c s bits)
-unfolding closed_in
-one_period c s bits = last_of (sample_of c s bits)
-  where
-    last_of : (a : Answer State) → closed_by c a ++ closed_on a (λ next. []) ≡ closed_by c a
-    last_of (given next) = append-nil (closed_by c (given next))
-    last_of (refused n offset) = refl
+-- the reply to a run whose only sample is answered so
+one_reply : (s : State) (a : Answer State) → uncounted (onward s a (λ next. record { taken = 0; number = 0; after = next })) ≡ reply_to s a
+one_reply s (given next) = refl
+one_reply s (refused n offset) = refl
+
+-- and the period that it closes
+one_period : (c : Config) (a : Answer State) → closed_by c a ++ closed_on a (λ next. []) ≡ closed_by c a
+one_period c (given next) = append-nil (closed_by c (given next))
+one_period c (refused n offset) = refl
+
+-- with the buffer that is lent to it
+pub one_lent : (r : Recorder) (bits : ℕ) (buffer : List ℕ) (w : WithBuffer (RunReply Recorder)) → w ≡ samples_lent r (bits ∷ []) buffer
+    → with_buffer (uncounted w.reply) w.buffer ≡ sample_lent r bits buffer
+unfolding samples_lent sample_lent samples_of closed_in
+one_lent r bits buffer w e =
+    let a = sample_of r.config r.state bits in
+    let lent = λ (reply : Reply State) (periods : List Period). with_buffer (beside r reply periods) (with_records (kept r.profile buffer) (records_of r.setup periods)).buffer in
+    rw e (by_test (as_at_start r.profile (length buffer)) (λ t. rw t (ap₂ lent (one_reply r.state a) (one_period r.config a))) (λ f. rw f))

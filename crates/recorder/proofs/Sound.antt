@@ -3,14 +3,14 @@ use mathlib.Core.Path.{◌≡◌, refl, ◌∙◌}
 use mathlib.Core.Bool.{Bool, true, false}
 use mathlib.Core.List.{List, [], ◌∷◌}
 use Prim.Native.Nat.{ℕ, ◌+◌, ◌<◌, ◌≤◌}
-use native.Mathlib.Nat.{add-zero, mod-lt, zero-lt-suc}
+use native.Mathlib.Nat.{mod-lt, zero-lt-suc}
 use native.Mathlib.Omega.{arith}
-use lib.Dec.{ltb, leb}
+use lib.Dec.{leb}
 use lib.IntN.{ℤ}
 use lib.ListN.{length-set, length-replicate, get_or-replicate}
-use borrow.Author.Tests.{ltb-true, ltb-false, leb-false, ne_eqb}
+use borrow.Author.Tests.{leb-false}
 use Rattle.laws.proofs.If.{if_cases}
-use Rattle.laws.proofs.Tests.{by_test}
+use Rattle.std.proofs.lemmas.Bool.Decides.{nat_tests}
 use Rattle.laws.specs.Answers.{Answer, given, refused, reply_to}
 use Rattle.laws.proofs.Any.{any_not}
 use Rattle.laws.specs.Masks.{bit_at}
@@ -44,15 +44,13 @@ use Rattle.counting.proofs.Lines.{passed_run, passed_remainder, line_after}
 
 -- a run after the filter is at most 256
 run_held : (run : ℕ) (on : Bool) → next_run run on ≤ 256
-run_held run true = if_cases (λ n. n ≤ 256) (ltb run 256) (λ e. omega (arith, ltb-true run 256 e)) (λ e. omega arith)
+run_held run true = grind (arith, nat_tests)
 run_held run false = omega arith
 
 -- what is left of a denominator is below it
 remainder_below : (input : Input) (remainder : ℕ) → 0 < input.denominator → remainder_of input remainder < input.denominator
 unfolding remainder_of
-remainder_below input remainder h =
-    let some : input.denominator ≡ 0 → ⊥ = omega arith in
-    rw (ne_eqb input.denominator 0 some) (mod-lt (remainder + input.numerator) h)
+remainder_below input remainder h = grind (arith, nat_tests, mod-lt)
 
 -- lines after a sample
 booked_lines : (c : Config) (clock : ℕ) (lines : List Line) (bills : List Bill) (mask : ℕ) → SoundLines c.inputs lines
@@ -86,15 +84,12 @@ cleared_lines_lem inputs lines h =
 -- a bill that is booked without being full
 billed_within : (bill : Bill) (due : ℕ) → fills_up bill.amount due ≡ false → bill.amount ≤ 999_999_999 → (billed bill due).amount ≤ 999_999_999
 unfolding billed
-billed_within bill due e h =
-    rw e
-    (by_test (ltb 0 due) (λ l. not_full bill.amount due e (ltb-true 0 due l))
-    (λ g. let none : due ≡ 0 = omega (arith, ltb-false 0 due g) in rw (none, add-zero) h))
+billed_within bill due e h = rw e (grind (arith, nat_tests, not_full))
 
 -- a bill after a billing reset
 closed_within : (register : Register) (bill : Bill) (clock : ℕ) → bill.amount ≤ 999_999_999 → (closed_bill register bill clock).amount ≤ 999_999_999
 unfolding closed_bill
-closed_within register bill clock h = if_cases (λ (b : Bill). b.amount ≤ 999_999_999) (ltb register.sum 8) (λ e. omega arith) (λ e. h)
+closed_within register bill clock h = grind (arith, nat_tests)
 
 -- bills after a sample that was not refused
 booked_bills : (registers : List Register) (bills : List Bill) (map : ℕ) (sums : List ℕ) → (booked_of registers bills map sums).full ≡ false
@@ -209,7 +204,7 @@ pub config_stays : (setup : Setup) (length : ℕ) (c : Config) (time : ℕ) (cal
 config_stays setup length c time calls = (start_stays setup length c time calls).0
 
 -- a line with nothing on it
-abbrev no_line : Line
+abbrev pub no_line : Line
 no_line = record { run = 0; rejected = 0; remainder = 0; units = 0 }
 
 -- a bill with nothing on it

@@ -1,11 +1,11 @@
 -- The calls on a recorder, and what the answers of the code say in document 01's numbers. "Order: start 1, 2, 3, 4, 9; sample 5, 6; reading 7, 8, 10. .. Clock sets can give only 9, billing resets
 -- nothing." CR 1 puts 14 before these, and a start's 8 next.
-use Rattle.std.specs.Prelude.{false, not, List, [], ℕ, ℤ, pos, replicate, if◌then◌else◌}
+use Rattle.std.specs.Prelude.{Result, Ok, Err, false, not, List, [], ℕ, ℤ, pos, replicate, if◌then◌else◌}
 use Rattle.laws.specs.Answers.{Answer, given, refused, Reply, RunReply, reply_to}
 use Rattle.calendar.specs.Moments.{moment_of}
 use Rattle.calendar.specs.declared.Moment.{Moment}
 use Rattle.image.specs.Image.{blank_config}
-use Rattle.image.specs.Answers.{image_answer, image_config}
+use Rattle.image.specs.Answers.{image_said, image_answer, image_config}
 use Rattle.settings.specs.declared.Config.{Config}
 use Rattle.profile.specs.Records.{slots_fit}
 use Rattle.profile.specs.Room.{legal_length, fresh_profile}
@@ -15,26 +15,21 @@ use Rattle.recorder.specs.Lists.{empty_list}
 use Rattle.recorder.specs.Meters.{Stamping, renewed, kept, ReadingReply, reading_of}
 use Rattle.recorder.specs.Clock.{set_of, reset_of}
 use Rattle.recorder.specs.Profile.{closed_by_set, moved, WithBuffer, lent_to}
+use Rattle.sampling.specs.declared.SampleError.{SampleError}
 use Rattle.sampling.specs.declared.Period.{Period}
 use Rattle.sampling.specs.declared.State.{State}
 use Rattle.recorder.specs.declared.Recorder.{Recorder}
 use Rattle.recorder.specs.declared.Setup.{Setup}
-use Rattle.recorder.specs.declared.Start.{Start}
-use Rattle.recorder.specs.declared.StartAnswer.{StartAnswer}
-use Rattle.recorder.specs.declared.StartAnswer.TheVariants as start
-use Rattle.recorder.specs.declared.StartAnswer.TheVariants.{Started, Length, Mark, Version, Value}
-use Rattle.recorder.specs.declared.Sampled.{Sampled}
+use Rattle.recorder.specs.declared.Answered.{Answered}
+use Rattle.recorder.specs.declared.errors.StartError.{StartError}
+use Rattle.recorder.specs.declared.errors.StartError.TheVariants as start
 use Rattle.recorder.specs.declared.SampleRun.{SampleRun}
-use Rattle.recorder.specs.declared.ClockSet.{ClockSet}
-use Rattle.recorder.specs.declared.MeterRead.{MeterRead}
-use Rattle.recorder.specs.declared.calls.SetAnswer.{SetAnswer}
-use Rattle.recorder.specs.declared.calls.SetAnswer.TheVariants as set
-use Rattle.recorder.specs.declared.calls.SetAnswer.TheVariants.{Set, NoDate}
-use Rattle.recorder.specs.declared.calls.Setting.{Setting}
-use Rattle.recorder.specs.declared.calls.ReadingAnswer.{ReadingAnswer}
-use Rattle.recorder.specs.declared.calls.ReadingAnswer.TheVariants.{Renewed, Kept, NoMeter, NotFitted, BadReading}
-use Rattle.recorder.specs.declared.calls.Reading.{Reading}
-use Rattle.recorder.specs.declared.samples.Taking.{Taking}
+use Rattle.recorder.specs.declared.errors.SetError.{SetError}
+use Rattle.recorder.specs.declared.errors.SetError.TheVariants as set
+use Rattle.recorder.specs.declared.errors.Stamp.{Stamp}
+use Rattle.recorder.specs.declared.errors.Stamp.TheVariants.{Renewed, Kept}
+use Rattle.recorder.specs.declared.errors.ReadingError.{ReadingError}
+use Rattle.recorder.specs.declared.errors.ReadingError.TheVariants.{NoMeter, NotFitted, BadReading}
 
 -- "At the fresh start runs, counts and remainders are 0"; no period is closed, no bill reset, no meter read
 unfoldable pub fresh_state : ℕ → State
@@ -65,23 +60,25 @@ pub record StartAnswered : Type 0 where
   pub recorder : Recorder
 
 -- what the answer to a start says
-abbrev pub start_number : StartAnswer → Answer (Unit {0})
-start_number Started = given tt
-start_number start.ProfileBuffer = refused 14 0
-start_number start.NotFitted = refused 8 0
-start_number Length = refused 1 0
-start_number Mark = refused 2 0
-start_number Version = refused 3 3
-start_number (Value offset) = refused 4 offset
-start_number start.NoDate = refused 9 0
+abbrev pub start_number : Result (Unit {0}) StartError → Answer (Unit {0})
+start_number (Ok u) = given tt
+start_number (Err start.ProfileBuffer) = refused 14 0
+start_number (Err start.NotFitted) = refused 8 0
+start_number (Err (start.Image e)) = image_said (Err e)
+start_number (Err start.NoDate) = refused 9 0
 
 -- what the code's answer to a start says
-abbrev pub start_said : Start → StartAnswered
+abbrev pub start_said : Answered (Unit {0}) StartError → StartAnswered
 start_said r = record { answer = start_number r.answer; recorder = r.recorder }
 
 -- a refused start hands back the blank recorder
-abbrev pub refused_start : StartAnswer → Start
-refused_start answer = record { answer = answer; recorder = blank_recorder }
+abbrev pub refused_start : StartError → Answered (Unit {0}) StartError
+refused_start error = record { answer = Err error; recorder = blank_recorder }
+
+-- what a recorder that has started, or why none has, says
+abbrev pub started_said : Result Recorder StartError → StartAnswered
+started_said (Ok r) = record { answer = given tt; recorder = r }
+started_said (Err error) = start_said (refused_start error)
 
 -- a fresh start with a configuration at a time: what else it was given, and how long the lent buffer is
 abbrev pub fresh_start : Setup → ℕ → Config → ℕ → Recorder
@@ -109,32 +106,20 @@ start_reply setup length bytes time =
     else start_from (image_answer bytes) setup length (image_config bytes) time
 
 -- a clock set: 0, 14 PROFILE BUFFER or 9 NO DATE
-abbrev pub set_number : SetAnswer → ℕ
-set_number Set = 0
-set_number set.ProfileBuffer = 14
-set_number NoDate = 9
+abbrev pub set_number : Result (Unit {0}) SetError → ℕ
+set_number (Ok u) = 0
+set_number (Err set.ProfileBuffer) = 14
+set_number (Err set.NoDate) = 9
 
 -- a reading: the stamp was renewed or kept; 7 NO METER, 8 NOT FITTED or 10 READING
-abbrev pub reading_number : ReadingAnswer → Answer Stamping
-reading_number Renewed = given renewed
-reading_number Kept = given kept
-reading_number NoMeter = refused 7 0
-reading_number NotFitted = refused 8 0
-reading_number BadReading = refused 10 0
+abbrev pub reading_number : Result Stamp ReadingError → Answer Stamping
+reading_number (Ok Renewed) = given renewed
+reading_number (Ok Kept) = given kept
+reading_number (Err NoMeter) = refused 7 0
+reading_number (Err NotFitted) = refused 8 0
+reading_number (Err BadReading) = refused 10 0
 
--- what the code's answer to a sample says of the state
-abbrev pub taken_said : Taking → Reply State
-taken_said r = record { number = sample_number r.answer; after = r.state }
-
--- what the code's answer to a clock set says of the state
-abbrev pub set_said : Setting → Reply State
-set_said r = record { number = set_number r.answer; after = r.state }
-
--- what the code's answer to a reading says of the state
-abbrev pub reading_said : Reading → ReadingReply State
-reading_said r = record { answer = reading_number r.answer; after = r.state }
-
--- the same of the whole recorder, with the periods that the call closed
+-- a reply of the state as one of the whole recorder, with the periods that the call closed
 abbrev pub beside : Recorder → Reply State → List Period → Reply Recorder
 beside r reply periods = record { number = reply.number; after = moved r reply.after periods }
 
@@ -187,7 +172,7 @@ unfoldable pub set_lent : Recorder → ℕ → List ℕ → WithBuffer (Reply Re
 set_lent r time buffer = lent_to r buffer (profile_buffer r) (set_reply r time) (closed_by_set (set_of r.config r.state time))
 
 -- what the code's answer to a sample says
-abbrev pub sampled_said : Sampled → Reply Recorder
+abbrev pub sampled_said : Answered (Unit {0}) SampleError → Reply Recorder
 sampled_said r = record { number = sample_number r.answer; after = r.recorder }
 
 -- to a run of samples
@@ -195,9 +180,9 @@ abbrev pub run_said : SampleRun → RunReply Recorder
 run_said r = record { taken = r.taken; number = sample_number r.answer; after = r.recorder }
 
 -- to a clock set
-abbrev pub clock_set_said : ClockSet → Reply Recorder
+abbrev pub clock_set_said : Answered (Unit {0}) SetError → Reply Recorder
 clock_set_said r = record { number = set_number r.answer; after = r.recorder }
 
 -- to a reading
-abbrev pub meter_read_said : MeterRead → ReadingReply Recorder
+abbrev pub meter_read_said : Answered Stamp ReadingError → ReadingReply Recorder
 meter_read_said r = record { answer = reading_number r.answer; after = r.recorder }

@@ -1,13 +1,13 @@
 -- "A fitted meter is never before its first reading; stale if the clock is past its stamp by more than its limit; else invalid if its IV is set; else awake." CR 2 in place of document 01's words
 -- in brackets: "A stamp ahead of the clock shall be stale." And: "The age class .. refuses limit 0 with 8, then STATUS above 7 with 10." CR 5: "A reading whose SEQ equals the stored one shall replace
 -- value and STATUS but keep the old stamp, after a clock set too, and the call's result says whether the stamp was renewed or kept. A first reading always renews."
-use Rattle.std.specs.Prelude.{Bool, true, false, not, ◌&&◌, ◌||◌, List, ℕ, ◌+◌, ◌%◌, ltb, eqb, ℤ, pos, get_or, set, if◌then◌else◌}
+use Rattle.std.specs.Prelude.{Result, Ok, Err, Bool, true, false, not, ◌&&◌, ◌||◌, List, ℕ, ◌+◌, ◌%◌, ltb, eqb, ℤ, pos, get_or, set, if◌then◌else◌}
 use Rattle.laws.specs.Answers.{Answer, given, refused}
 use Rattle.settings.specs.declared.Config.{Config}
 use Rattle.recorder.specs.declared.meters.Age.{Age}
 use Rattle.recorder.specs.declared.meters.Age.TheVariants.{Awake, Stale, Invalid, Never}
-use Rattle.recorder.specs.declared.meters.AgeAnswer.{AgeAnswer}
-use Rattle.recorder.specs.declared.meters.AgeAnswer.TheVariants.{Class, NotFitted, BadStatus}
+use Rattle.recorder.specs.declared.meters.AgeError.{AgeError}
+use Rattle.recorder.specs.declared.meters.AgeError.TheVariants.{NotFitted, BadStatus}
 use Rattle.sampling.specs.declared.Meter.{Meter}
 use Rattle.sampling.specs.declared.State.{State}
 
@@ -34,10 +34,10 @@ age_of limit read stamp status clock =
     else given (class_of limit read stamp status clock)
 
 -- what the code's answer says
-abbrev pub age_said : AgeAnswer → Answer ℕ
-age_said (Class age) = given (age_number age)
-age_said NotFitted = refused 8 0
-age_said BadStatus = refused 10 0
+abbrev pub age_said : Result Age AgeError → Answer ℕ
+age_said (Ok age) = given (age_number age)
+age_said (Err NotFitted) = refused 8 0
+age_said (Err BadStatus) = refused 10 0
 
 -- a state with other readings
 abbrev pub with_meters : State → List Meter → State

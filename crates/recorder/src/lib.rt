@@ -1,32 +1,27 @@
 // The recorder: what is fixed, what moves, and the calls that move it.
 #![tactic(auto)]
 
-mod calls;
+mod errors;
 mod meters;
-mod samples;
 
-ghost use Rattle.std.specs.Prelude.{◌≡◌, length};
-ghost use Rattle.calendar.specs.Moments.{moment_of};
-ghost use Rattle.profile.specs.Room.{fresh_profile};
+ghost use Rattle.std.specs.Prelude.{◌≡◌, Err, length};
 ghost use Rattle.profile.specs.Reading.{record_replied, record_reply};
-ghost use Rattle.recorder.specs.Profile.{with_buffer};
-ghost use Rattle.recorder.specs.Calls.{fresh_state, blank_recorder, start_said, refused_start, start_dated, start_from, start_reply, sampled_said, sample_lent, run_said, samples_lent, clock_set_said, set_lent, meter_read_said, reading_reply, reset_reply};
-ghost use Rattle.recorder.specs.Readout.{not_booked, readout_said, readout_reply, block_readout_reply};
-ghost use Rattle.image.specs.Answers.{image_answer, image_config};
+ghost use Rattle.recorder.specs.Clock.{closed_bill};
+ghost use Rattle.recorder.specs.Profile.{record_of, with_buffer};
+ghost use Rattle.recorder.specs.Calls.{fresh_state, blank_recorder, fresh_start, start_said, started_said, start_reply, sampled_said, sample_lent, run_said, samples_lent, clock_set_said, set_lent, meter_read_said, reading_reply, reset_reply};
+ghost use Rattle.recorder.specs.Readout.{readout_said, readout_reply, block_readout_reply};
 
-use calendar::Dated;
-pub use calls::{ReadingAnswer, SetAnswer};
-use calls::{read, reset, set};
 pub use counting::{Bill, Line};
-use image::{Config, ImageAnswer};
-pub use meters::{Age, AgeAnswer, age_answer, age_class};
-pub use profile::{Profile, RecordAnswer};
-use profile::{legal_length, slots_fit};
-use readout::{BlockAnswer, LineAnswer, NumberAnswer, check_block, line_number};
-use samples::{keep, one};
-use sampling::clock::close;
+pub use errors::{ReadingError, ReadoutError, SetError, Stamp, StartError};
+use image::{Config, Register};
+pub use meters::{Age, AgeError, age_answer, age_class};
+pub use profile::{Profile, RecordError};
+use profile::{Record, choose, legal_length, slots_fit};
+use readout::{check_block, line_number};
+use sampling::clock::{close, close_with};
 use sampling::samples::take;
-pub use sampling::{Meter, Period, SampleAnswer, State};
+pub use sampling::{Meter, Period, SampleError, State};
+use std::array;
 
 // What a maker may read, as masks: bit i names meter, input, slot or bill register i. Overlaps and things that are not fitted are legal.
 #[derive(Clone, Copy)]
@@ -61,68 +56,34 @@ pub struct Recorder {
     pub profile: Profile,
 }
 
+// What a call is answered, and the recorder after it. The state goes by value, so the recorder is there whether the call was taken or refused.
 #[derive(Clone, Copy)]
-pub enum StartAnswer {
-    Started,
-    ProfileBuffer,
-    NotFitted,
-    Length,
-    Mark,
-    Version,
-    Value(usize),
-    NoDate,
+pub struct Answered<T, E> {
+    pub recorder: Recorder,
+    pub answer: Result<T, E>,
 }
 
-// The recorder beside a refused start is the blank one.
-#[derive(Clone, Copy)]
-pub struct Start {
-    pub recorder: Recorder,
-    pub answer: StartAnswer,
-}
+// A start is no `Result` of a recorder: `BlankRefuses` of crate demands states that a refused one hands back the blank recorder, and the program hall goes on with it.
+pub type Start = Answered<(), StartError>;
 
-#[derive(Clone, Copy)]
-pub struct Sampled {
-    pub recorder: Recorder,
-    pub answer: SampleAnswer,
-}
+pub type Sampled = Answered<(), SampleError>;
+
+pub type ClockSet = Answered<(), SetError>;
+
+pub type MeterRead = Answered<Stamp, ReadingError>;
+
+pub type MeterReadout = Answered<Stamp, ReadoutError>;
 
 // How many samples were taken, and the refusal that ended the run, if there was one.
 #[derive(Clone, Copy)]
 pub struct SampleRun {
     pub recorder: Recorder,
     pub taken: usize,
-    pub answer: SampleAnswer,
-}
-
-#[derive(Clone, Copy)]
-pub struct ClockSet {
-    pub recorder: Recorder,
-    pub answer: SetAnswer,
-}
-
-#[derive(Clone, Copy)]
-pub struct MeterRead {
-    pub recorder: Recorder,
-    pub answer: ReadingAnswer,
-}
-
-// What is said of a data set that is to be booked as a reading: why it is none, or what is said of the reading.
-#[derive(Clone, Copy)]
-pub enum ReadoutAnswer {
-    Block,
-    Line,
-    NotANumber,
-    DoesNotFit,
-    Read(ReadingAnswer),
-}
-
-#[derive(Clone, Copy)]
-pub struct MeterReadout {
-    pub recorder: Recorder,
-    pub answer: ReadoutAnswer,
+    pub answer: Result<(), SampleError>,
 }
 
 // A state with nothing booked, at a time.
+#[tactic(auto, unfolding(crate::specs::Calls::fresh_state))]
 fn fresh_state(time: u32) -> State
     ensures { result ≡ fresh_state time }
 {
@@ -161,230 +122,230 @@ fn fresh_state(time: u32) -> State
     }
 }
 
-// A profile with no record, for a buffer of a length.
-fn fresh_profile(length: usize) -> Profile
-    ensures { result ≡ fresh_profile length }
-{
-    Profile {
-        length,
-        next: 0,
-        held: 0,
-    }
-}
-
+// All zeros, with nothing fitted: what a refused start hands back.
+#[tactic(auto, unfolding(crate::specs::Calls::blank_recorder))]
 fn blank_recorder() -> Recorder
     ensures { result ≡ blank_recorder }
 {
-    let config = image::blank_config();
-    let state = fresh_state(0);
     let setup = Setup {
         slots: [0; 8],
         lists: [EMPTY_LIST; 3],
     };
-    Recorder {
-        config,
-        setup,
-        state,
-        profile: fresh_profile(0),
-    }
+    Recorder::fresh(image::blank_config(), setup, 0, 0)
 }
 
-// A refused start hands back the blank recorder.
-fn refuse_start(answer: StartAnswer) -> Start
-    ensures { result ≡ refused_start answer }
-{
-    let recorder = blank_recorder();
-    Start { answer, recorder }
-}
-
-// A fresh recorder, if the time has a date.
-fn start_at(setup: Setup, length: usize, config: Config, time: u32) -> Start
-    ensures { start_said result ≡ start_dated (moment_of time) setup length config time }
-{
-    match calendar::moment_of(time) {
-        Dated::On(_) => {
-            let state = fresh_state(time);
-            let recorder = Recorder {
-                config,
-                setup,
-                state,
-                profile: fresh_profile(length),
-            };
-            Start {
-                answer: StartAnswer::Started,
-                recorder,
-            }
+impl Setup {
+    // The record of a closed period: the values of the chosen slots.
+    fn record_of(self, period: Period) -> Record
+        ensures { result ≡ record_of self period }
+    {
+        Record {
+            stamp: period.stamp,
+            state: period.state,
+            values: choose(self.slots, period.values),
         }
-        Dated::NoDate => refuse_start(StartAnswer::NoDate),
     }
 }
 
-// A fresh recorder, if the image is accepted.
-fn start_from(setup: Setup, length: usize, bytes: &[u8], time: u32) -> Start
-    ensures { start_said result ≡ start_from (image_answer bytes.now) setup length (image_config bytes.now) time }
+// The bill of a register in use is closed: the open amount is noted with the clock, and begins anew.
+#[tactic(auto, unfolding(crate::specs::Clock::closed_bill))]
+fn close_bill(register: Register, bill: Bill, clock: u32) -> Bill
+    ensures { result ≡ closed_bill register bill clock }
 {
-    let image = image::read_image(bytes);
-    let answer = image.answer;
-    match answer {
-        ImageAnswer::Accepted => {
-            let config = image.config;
-            start_at(setup, length, config, time)
+    if register.sum < 8 {
+        Bill {
+            amount: 0,
+            closed: bill.amount,
+            stamp: clock,
+            reset: true,
         }
-        ImageAnswer::Length => refuse_start(StartAnswer::Length),
-        ImageAnswer::Mark => refuse_start(StartAnswer::Mark),
-        ImageAnswer::Version => refuse_start(StartAnswer::Version),
-        ImageAnswer::Value(offset) => refuse_start(StartAnswer::Value(offset)),
+    } else {
+        bill
     }
-}
-
-// A data set that is not booked leaves the recorder.
-fn not_booked(recorder: Recorder, answer: ReadoutAnswer) -> MeterReadout
-    ensures { result ≡ not_booked recorder answer }
-{
-    MeterReadout { recorder, answer }
 }
 
 impl Recorder {
-    // A fresh recorder from an image and a time, with the chosen slots. The buffer for records is only lent for its length: nothing is written into it yet.
+    // A refused call leaves the recorder.
+    fn refuse<T, E>(self, error: E) -> Answered<T, E>
+        ensures { result ≡ record { recorder = self; answer = Err error } }
+    {
+        Answered {
+            recorder: self,
+            answer: Err(error),
+        }
+    }
+
+    // With nothing booked and no record yet.
+    fn fresh(config: Config, setup: Setup, length: usize, time: u32) -> Recorder
+        ensures { result ≡ fresh_start setup length config time }
+    {
+        Recorder {
+            state: fresh_state(time),
+            config,
+            setup,
+            profile: Profile {
+                length,
+                next: 0,
+                held: 0,
+            },
+        }
+    }
+
+    // A fresh recorder, if the image is accepted and the time has a date.
+    #[tactic(auto, unfolding(crate::specs::Calls::start_reply, image::specs::Answers::image_config, image::specs::Answers::image_read))]
+    fn started(bytes: &[u8], time: u32, setup: Setup, length: usize) -> Result<Recorder, StartError>
+        ensures { started_said result ≡ start_reply setup length bytes.now time }
+    {
+        if !legal_length(length) {
+            return Err(StartError::ProfileBuffer);
+        }
+        if !slots_fit(setup.slots) {
+            return Err(StartError::NotFitted);
+        }
+        let config = image::read_image(bytes)?;
+        if calendar::moment_of(time).is_none() {
+            return Err(StartError::NoDate);
+        }
+        Ok(Recorder::fresh(config, setup, length, time))
+    }
+
+    // From an image and a time, with the chosen slots. The buffer for records is only lent for its length: nothing is written into it yet.
     pub fn start(bytes: &[u8], time: u32, setup: Setup, buffer: &[u8]) -> Start
         ensures { start_said result ≡ start_reply setup (length buffer.now) bytes.now time }
     {
-        let length = buffer.len();
-        if !legal_length(length) {
-            return refuse_start(StartAnswer::ProfileBuffer);
+        match Recorder::started(bytes, time, setup, buffer.len()) {
+            Ok(recorder) => Answered {
+                recorder,
+                answer: Ok(()),
+            },
+            Err(error) => blank_recorder().refuse(error),
         }
-        let slots = setup.slots;
-        if !slots_fit(slots) {
-            return refuse_start(StartAnswer::NotFitted);
-        }
-        start_from(setup, length, bytes, time)
     }
 
+    #[tactic(auto, using(crate::proofs::Single::one_lent))]
     pub fn sample(self, bits: u16, buffer: &mut [u8]) -> Sampled
         ensures { with_buffer (sampled_said result) buffer.new ≡ sample_lent self bits buffer.old }
     {
-        let profile = self.profile;
-        if !profile.as_at_start(buffer.len()) {
-            return Sampled {
-                answer: SampleAnswer::ProfileBuffer,
-                recorder: self,
-            };
+        let run = self.samples(&[bits], buffer);
+        Answered {
+            recorder: run.recorder,
+            answer: run.answer,
         }
-        let config = self.config;
-        let setup = self.setup;
-        let state = self.state;
-        let taking = one(config, setup, state, profile, bits, buffer);
-        let next = taking.state;
-        let records = taking.profile;
-        let answer = taking.answer;
-        let recorder = Recorder {
-            config,
-            setup,
-            state: next,
-            profile: records,
-        };
-        Sampled { answer, recorder }
     }
 
     // The samples in order, up to the first refusal: `sample` one after another, lap after lap with the closings between them.
     pub fn samples(self, bits: &[u16], buffer: &mut [u8]) -> SampleRun
         ensures { with_buffer (run_said result) buffer.new ≡ samples_lent self bits.now buffer.old }
     {
-        let config = self.config;
-        let setup = self.setup;
-        let mut now = self.state;
-        let mut records = self.profile;
-        let mut k: usize = 0;
-        let mut answer = SampleAnswer::ProfileBuffer;
-        if records.as_at_start(buffer.len()) {
+        let mut state = self.state;
+        let mut profile = self.profile;
+        let mut taken: usize = 0;
+        let mut answer = Err(SampleError::ProfileBuffer);
+        if profile.as_at_start(buffer.len()) {
             loop {
-                let lap = take(config, now, &bits[k..]);
-                now = lap.state;
+                let lap = take(self.config, state, &bits[taken..]);
+                taken += lap.taken;
+                state = lap.state;
                 answer = lap.answer;
-                k += lap.taken;
                 if !lap.closes {
                     break;
                 }
-                now = close(config, now);
-                let period = now.closed;
-                records = keep(setup, records, period, buffer);
+                state = close(self.config, state);
+                profile = profile.put(self.setup.record_of(state.closed), buffer);
             }
         }
-        let recorder = Recorder {
-            config,
-            setup,
-            state: now,
-            profile: records,
-        };
         SampleRun {
-            taken: k,
+            recorder: Recorder {
+                state,
+                profile,
+                ..self
+            },
+            taken,
             answer,
-            recorder,
         }
     }
 
+    // The period closes at the old time as short; second and period start anew.
+    #[tactic(auto, unfolding(crate::specs::Calls::set_lent, crate::specs::Clock::set_of, crate::specs::Clock::set_to, profile::specs::Room::with_record))]
     pub fn set_clock(self, seconds: u32, buffer: &mut [u8]) -> ClockSet
         ensures { with_buffer (clock_set_said result) buffer.new ≡ set_lent self seconds buffer.old }
     {
-        let profile = self.profile;
-        if !profile.as_at_start(buffer.len()) {
-            return ClockSet {
-                answer: SetAnswer::ProfileBuffer,
-                recorder: self,
-            };
+        if !self.profile.as_at_start(buffer.len()) {
+            return self.refuse(SetError::ProfileBuffer);
         }
-        let config = self.config;
-        let setup = self.setup;
-        let state = self.state;
-        let setting = set(config, setup, state, profile, seconds, buffer);
-        let next = setting.state;
-        let records = setting.profile;
-        let answer = setting.answer;
-        let recorder = Recorder {
-            config,
-            setup,
-            state: next,
-            profile: records,
+        if calendar::moment_of(seconds).is_none() {
+            return self.refuse(SetError::NoDate);
+        }
+        let state = State {
+            clock: seconds,
+            samples: 0,
+            ..close_with(self.config, self.state, 1, self.state.clock, seconds)
         };
-        ClockSet { answer, recorder }
+        let recorder = Recorder {
+            state,
+            profile: self.profile.put(self.setup.record_of(state.closed), buffer),
+            ..self
+        };
+        Answered {
+            recorder,
+            answer: Ok(()),
+        }
     }
 
+    #[tactic(auto, unfolding(crate::specs::Meters::reading_answer, crate::specs::Meters::stamping_of))]
     pub fn reading(self, meter: u8, value: i32, status: u8, seq: u8) -> MeterRead
         ensures { meter_read_said result ≡ reading_reply self meter value status seq }
     {
-        let config = self.config;
-        let state = self.state;
-        let reading = read(config, state, meter, value, status, seq);
-        let answer = reading.answer;
+        let place = meter as usize;
+        if place > 31 {
+            return self.refuse(ReadingError::NoMeter);
+        }
+        if self.config.limits[place] == 0 {
+            return self.refuse(ReadingError::NotFitted);
+        }
+        if status > 7 || seq > 31 {
+            return self.refuse(ReadingError::BadReading);
+        }
+        let stored = self.state.meters[place];
+        // The stored SEQ again is no sign of life; a first reading repeats nothing.
+        let (answer, stamp) = if stored.read && stored.seq == seq {
+            (Stamp::Kept, stored.stamp)
+        } else {
+            (Stamp::Renewed, self.state.clock)
+        };
         let mut recorder = self;
-        let next = reading.state;
-        recorder.state = next;
-        MeterRead { answer, recorder }
+        recorder.state.meters[place] = Meter {
+            read: true,
+            stamp,
+            value,
+            status,
+            seq,
+        };
+        Answered {
+            recorder,
+            answer: Ok(answer),
+        }
     }
 
-    // Books the value of a data set as a reading: as a whole number with so many decimals.
+    // Books the value of a data set as a reading: as a whole number with so many decimals. What the caller gives comes one by one, as in `readout_reply`.
+    #[tactic(auto, unfolding(crate::specs::Readout::readout_reply))]
     pub fn readout(self, meter: u8, status: u8, seq: u8, decimals: u8, line: &[u8]) -> MeterReadout
         ensures { readout_said result ≡ readout_reply self meter status seq decimals line.now }
     {
-        let LineAnswer::Read(number) = line_number(line, decimals) else {
-            return not_booked(self, ReadoutAnswer::Line);
-        };
-        match number {
-            NumberAnswer::Is(value) => {
+        match line_number(line, decimals) {
+            Ok(value) => {
                 let read = self.reading(meter, value, status, seq);
-                let answer = read.answer;
-                let recorder = read.recorder;
-                MeterReadout {
-                    recorder,
-                    answer: ReadoutAnswer::Read(answer),
+                Answered {
+                    recorder: read.recorder,
+                    answer: read.answer.map_err(ReadoutError::from),
                 }
             }
-            NumberAnswer::NotANumber => not_booked(self, ReadoutAnswer::NotANumber),
-            NumberAnswer::DoesNotFit => not_booked(self, ReadoutAnswer::DoesNotFit),
+            Err(error) => self.refuse(error.into()),
         }
     }
 
     // The same with the block around it tested first.
+    #[tactic(auto, unfolding(crate::specs::Readout::block_readout_reply))]
     pub fn block_readout(
         self,
         meter: u8,
@@ -397,27 +358,33 @@ impl Recorder {
         ensures { readout_said result ≡ block_readout_reply self meter status seq decimals block.now line.now }
     {
         match check_block(block) {
-            BlockAnswer::Whole => self.readout(meter, status, seq, decimals, line),
-            BlockAnswer::Block => not_booked(self, ReadoutAnswer::Block),
+            Ok(()) => self.readout(meter, status, seq, decimals, line),
+            Err(error) => self.refuse(error.into()),
         }
     }
 
+    // The open amount of a register in use is noted with the clock, and begins anew.
     pub fn reset_bills(self) -> Recorder
         ensures { result ≡ reset_reply self }
     {
-        let config = self.config;
-        let state = self.state;
-        let next = reset(config, state);
-        let mut recorder = self;
-        recorder.state = next;
-        recorder
+        let bills = array::from_fn(|j| close_bill(
+            self.config.registers[j],
+            self.state.bills[j],
+            self.state.clock,
+        ));
+        Recorder {
+            state: State {
+                bills,
+                ..self.state
+            },
+            ..self
+        }
     }
 
     // Reads a record of the load profile into the first 69 bytes of a result, the oldest with index 0.
-    pub fn read_record(self, index: u32, buffer: &[u8], res: &mut [u8]) -> RecordAnswer
+    pub fn read_record(self, index: u32, buffer: &[u8], res: &mut [u8]) -> Result<(), RecordError>
         ensures { record_replied result res.new ≡ record_reply self.profile index buffer.now res.old }
     {
-        let profile = self.profile;
-        profile.read(index, buffer, res)
+        self.profile.read(index, buffer, res)
     }
 }

@@ -1,6 +1,6 @@
 -- The table of groups, line by line; and the reply to a request by the line that was found for it.
 use mathlib.Core.Path.{◌≡◌, refl, sym, ap, ◌∙◌}
-use mathlib.Core.Bool.{Bool, true, false, true≢false, not}
+use mathlib.Core.Bool.{Bool, true, false, not}
 use mathlib.Core.List.{List, [], ◌∷◌, ◌++◌}
 use mathlib.Core.Logic.{◌⊎◌, ⊎_elim}
 use Prim.Native.Nat.{ℕ, ◌≤◌, ◌<◌}
@@ -41,18 +41,13 @@ abbrev pub the : {A : Type 0} → A → Answer A → A
 the other (given x) = x
 the other (refused n offset) = other
 
--- the number of a refusal
-abbrev number : {A : Type 0} → Answer A → ℕ
-number (given x) = 0
-number (refused n offset) = n
-
 -- what holds of each line holds of the one that is found
 pub each_found : (P : Group → Type 0) (gs : List Group) (n : ℕ) (g : Group) → look_up gs n ≡ given g → Each P gs → P g
 unfolding look_up
-each_found P [] n g e each = absurd (true≢false (ap is_given_lem (sym e)))
+each_found P [] n g e each = absurd cc
 each_found P (l ∷ gs) n g e each =
     by_test (eqb n l.number)
-    (λ t. let same : l ≡ g = ap (the l) (rw t at e) in rw (← same) each.0)
+    (λ t. let same : l ≡ g = cc (rw t at e) in rw (← same) each.0)
     (λ f. each_found P gs n g (rw f at e) each.1)
 
 -- the line behind a layout
@@ -65,14 +60,15 @@ pub record Found (a : Answer Group) (registers bytes : ℕ) : Type 0 where
 -- there is one where the layout is given
 pub found : (a : Answer Group) (registers bytes : ℕ) → given (record { registers = registers; bytes = bytes }) ≡ shape_of a → Found a registers bytes
 found (given g) registers bytes e =
-    let none : Shape = record { registers = 0; bytes = 0 } in
-    record { group = g; is = refl; has = sym (ap (λ s. (the none s).registers) e); long = sym (ap (λ s. (the none s).bytes) e) }
-found (refused n offset) registers bytes e = absurd (true≢false (ap is_given_lem e))
+    let laid : Shape = record { registers = registers; bytes = bytes } in
+    let same : record { registers = g.registers; bytes = g.bytes } ≡ laid = cc in
+    record { group = g; is = refl; has = ap (λ (s : Shape). s.registers) same; long = ap (λ (s : Shape). s.bytes) same }
+found (refused n offset) registers bytes e = absurd cc
 
 -- there is none where it is refused
 pub not_found : (a : Answer Group) (r : Recorder) (i : ℕ) (buffer : List ℕ) → refused 11 0 ≡ shape_of a → refusal 11 buffer ≡ reply_of a r i buffer
-not_found (given g) r i buffer e = absurd (true≢false (ap is_given_lem (sym e)))
-not_found (refused n offset) r i buffer e = ap (λ m. refusal m buffer) (ap number e)
+not_found (given g) r i buffer e = absurd cc
+not_found (refused n offset) r i buffer e = cc
 
 module _ {a : Answer Group} {registers bytes : ℕ} (line : Found a registers bytes) (r : Recorder) (i : ℕ) (buffer : List ℕ) where
   -- 12 NO REGISTER

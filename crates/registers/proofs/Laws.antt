@@ -1,6 +1,6 @@
 -- The laws of specs/Laws.antt on requests.
-use mathlib.Core.Path.{◌≡◌, refl, sym, ap, ◌∙◌}
-use mathlib.Core.Bool.{true, true≢false, not}
+use mathlib.Core.Path.{◌≡◌, refl, ◌∙◌}
+use mathlib.Core.Bool.{true, not}
 use mathlib.Core.List.{List, ◌++◌}
 use Prim.Native.Nat.{ℕ, ◌%◌, ◌≤◌}
 use native.Mathlib.Omega.{arith}
@@ -21,7 +21,7 @@ use Rattle.recorder.specs.Meters.{meter_at}
 use Rattle.registers.specs.Fleet.{meter_class, class_at}
 use Rattle.registers.specs.Registers.{Group, groups, look_up, group_of, held_by, RegisterReply, refusal, register_read, reply_of, register_reply}
 use Rattle.registers.specs.Laws.{BytesAsTable, RefusedLeaves, GivenFirst, MarkedByClass, UnmarkedByClass}
-use Rattle.registers.proofs.Groups.{each_found, is_given_lem, the}
+use Rattle.registers.proofs.Groups.{each_found}
 
 serial_long : (m : Meter) (class : ℕ) → length (serial_bytes m class) ≡ 10
 unfolding bytes_of serial_bytes
@@ -86,7 +86,7 @@ refused_leaves r group register buffer n offset = leaves (group_of group)
     leaves (refused m at) = λ e. refl
     leaves (given g) =
         by_way (λ reply. reply.answer ≡ refused n offset → reply.buffer ≡ buffer) g r register buffer
-        (λ e. refl) (λ e. refl) (λ e. refl) (λ room e. absurd (true≢false (ap is_given_lem e)))
+        (λ e. refl) (λ e. refl) (λ e. refl) (λ room e. absurd cc)
 
 -- what a request that was answered has given
 pub given_first : GivenFirst
@@ -95,12 +95,12 @@ given_first r group register buffer n = first (group_of group) refl
   where
     first : (a : Answer Group) → group_of group ≡ a → (reply_of a r register buffer).answer ≡ given n
         → (length (held_by a r register) ≡ n) × (n ≤ length buffer) × ((reply_of a r register buffer).buffer ≡ held_by a r register ++ drop n buffer)
-    first (refused m at) q = λ e. absurd (true≢false (sym (ap is_given_lem e)))
+    first (refused m at) q = λ e. absurd cc
     first (given g) q =
         by_way (λ reply. reply.answer ≡ given n → (length (g.holds r register) ≡ n) × (n ≤ length buffer) × (reply.buffer ≡ g.holds r register ++ drop n buffer)) g r register buffer
-        (λ e. absurd (true≢false (sym (ap is_given_lem e)))) (λ e. absurd (true≢false (sym (ap is_given_lem e)))) (λ e. absurd (true≢false (sym (ap is_given_lem e))))
+        (λ e. absurd cc) (λ e. absurd cc) (λ e. absurd cc)
         (λ room e.
-        let same : g.bytes ≡ n = ap (the 0) e in
+        let same : g.bytes ≡ n = cc in
         (held_long group g q r register ∙ same, rw (← same) (leb-true _ _ room), rw same))
 
 -- the STATUS byte of a meter that is not awake is odd

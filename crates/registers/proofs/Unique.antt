@@ -1,5 +1,5 @@
 -- No second result, and no second buffer, fits the contract of a public function of the registers.
-use Rattle.std.specs.Prelude.{if◌then◌else◌}
+use Rattle.std.specs.Prelude.{if◌then◌else◌, Result, Ok, Err}
 use mathlib.Core.Path.{◌≡◌, refl, sym, ap, ◌∙◌}
 use Prim.Native.Nat.{ℕ}
 use lib.Dec.{eqb}
@@ -7,25 +7,25 @@ use Rattle.laws.specs.Answers.{Answer, given, refused}
 use Rattle.laws.specs.Unique.{OneResult, OneExit}
 use Rattle.laws.proofs.Unique.{told_apart}
 use Rattle.registers.specs.Registers.{register_said, RegisterReply}
-use Rattle.registers.specs.declared.RegisterAnswer.{RegisterAnswer}
-use Rattle.registers.specs.declared.RegisterAnswer.TheVariants.{Given, NoGroup, NoRegister, NotFitted, NoRoom}
+use Rattle.registers.specs.declared.RegisterError.{RegisterError}
+use Rattle.registers.specs.declared.RegisterError.TheVariants.{NoGroup, NoRegister, NotFitted, NoRoom}
 use Rattle.registers.proofs.read_register.Reads as read_register_reads
 use Rattle.registers.proofs.fleet.fleet_of.Reads as fleet_of_reads
 
 -- document 01's number, and how many bytes were given, tell all answers to a request apart
-pub register_apart : (x y : RegisterAnswer) → register_said x ≡ register_said y → x ≡ y
+pub register_apart : (x y : Result ℕ RegisterError) → register_said x ≡ register_said y → x ≡ y
 register_apart = told_apart register_said back told
   where
-    back : Answer ℕ → RegisterAnswer
-    back (given n) = Given n
-    back (refused n offset) = if eqb n 11 then NoGroup else if eqb n 12 then NoRegister else if eqb n 8 then NotFitted else NoRoom
+    back : Answer ℕ → Result ℕ RegisterError
+    back (given n) = Ok n
+    back (refused n offset) = Err (if eqb n 11 then NoGroup else if eqb n 12 then NoRegister else if eqb n 8 then NotFitted else NoRoom)
 
-    told : (x : RegisterAnswer) → back (register_said x) ≡ x
-    told (Given n) = refl
-    told NoGroup = refl
-    told NoRegister = refl
-    told NotFitted = refl
-    told NoRoom = refl
+    told : (x : Result ℕ RegisterError) → back (register_said x) ≡ x
+    told (Ok n) = refl
+    told (Err NoGroup) = refl
+    told (Err NoRegister) = refl
+    told (Err NotFitted) = refl
+    told (Err NoRoom) = refl
 
 pub read_register_once : OneResult read_register_reads.Post
 read_register_once κs a x y e f p q = register_apart x y (ap (λ (r : RegisterReply). r.answer) (p ∙ sym q))

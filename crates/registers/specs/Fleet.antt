@@ -1,9 +1,10 @@
 -- "204 fleet: fitted, awake, stale, invalid, never 1 each; signed sum of awake values 8."
-use Rattle.std.specs.Prelude.{Bool, cond, List, ℕ, ltb, eqb, ℤ, pos, get_or, if◌then◌else◌}
+use Rattle.std.specs.Prelude.{Bool, cond, List, ℕ, ltb, eqb, ℤ, pos, get_or, if◌then◌else◌, Option, Some, None}
 use Rattle.laws.specs.Counts.{count_of}
 use Rattle.laws.specs.SignedTotal.{totalℤ}
 use Rattle.laws.specs.Tables.{table}
-use Rattle.recorder.specs.Meters.{class_of, meter_at}
+use Rattle.recorder.specs.Meters.{age_number, class_of, meter_at}
+use Rattle.recorder.specs.declared.meters.Age.{Age}
 use Rattle.sampling.specs.declared.Meter.{Meter}
 use Rattle.recorder.specs.declared.Recorder.{Recorder}
 use Rattle.registers.specs.declared.fleet.Fleet.{Fleet}
@@ -11,6 +12,11 @@ use Rattle.registers.specs.declared.fleet.Fleet.{Fleet}
 -- the class of a meter: 0 awake, 1 stale, 2 invalid, 3 never; 4 where it has no limit and is not fitted
 unfoldable pub meter_class : ℕ → Meter → ℕ → ℕ
 meter_class limit m clock = if eqb limit 0 then 4 else class_of limit m.read m.stamp m.status clock
+
+-- the number of the code's class
+abbrev pub class_number : Option Age → ℕ
+class_number (Some age) = age_number age
+class_number None = 4
 
 -- the class of meter i
 unfoldable pub class_at : List ℕ → List Meter → ℕ → ℕ → ℕ

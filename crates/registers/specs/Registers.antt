@@ -1,5 +1,5 @@
 -- Document 01's table of registers, one line for each group, and what a request answers. "Order: .. register 11, 12, 8, 13."
-use Rattle.std.specs.Prelude.{Bool, true, not, List, [], ◌∷◌, ◌++◌, ℕ, leb, eqb, length, drop, get_or, if◌then◌else◌}
+use Rattle.std.specs.Prelude.{Bool, true, not, List, [], ◌∷◌, ◌++◌, ℕ, leb, eqb, length, drop, get_or, if◌then◌else◌, Option, Some, None, Result, Ok, Err}
 use Rattle.laws.specs.Answers.{Answer, given, refused}
 use Rattle.settings.specs.Rules.{zero_input, zero_slot, zero_register}
 use Rattle.settings.specs.declared.Config.{Config}
@@ -9,9 +9,8 @@ use Rattle.recorder.specs.declared.Recorder.{Recorder}
 use Rattle.registers.specs.Fleet.{fleet_of}
 use Rattle.registers.specs.Contents.{meter_bytes, map_bytes, daily_bytes, weekly_bytes, level_bytes, bill_bytes, filter_bytes, fleet_bytes, clock_bytes}
 use Rattle.registers.specs.declared.Layout.{Layout}
-use Rattle.registers.specs.declared.Layout.TheVariants as layout
-use Rattle.registers.specs.declared.RegisterAnswer.{RegisterAnswer}
-use Rattle.registers.specs.declared.RegisterAnswer.TheVariants.{Given, NoGroup, NoRegister, NotFitted, NoRoom}
+use Rattle.registers.specs.declared.RegisterError.{RegisterError}
+use Rattle.registers.specs.declared.RegisterError.TheVariants.{NoGroup, NoRegister, NotFitted, NoRoom}
 
 -- a line of the table: the group, how many registers it has, how many bytes each, which of them are in use, and what they hold
 pub record Group : Type 0 where
@@ -110,17 +109,17 @@ abbrev pub layout_of : ℕ → Answer Shape
 layout_of n = shape_of (group_of n)
 
 -- what the code's layout says
-abbrev pub layout_said : Layout → Answer Shape
-layout_said (layout.Of registers bytes) = given (record { registers = registers; bytes = bytes })
-layout_said layout.NoGroup = refused 11 0
+abbrev pub layout_said : Option Layout → Answer Shape
+layout_said (Some layout) = given (record { registers = layout.registers; bytes = layout.bytes })
+layout_said None = refused 11 0
 
 -- what the code's answer says: how many bytes were given, or document 01's number
-abbrev pub register_said : RegisterAnswer → Answer ℕ
-register_said (Given n) = given n
-register_said NoGroup = refused 11 0
-register_said NoRegister = refused 12 0
-register_said NotFitted = refused 8 0
-register_said NoRoom = refused 13 0
+abbrev pub register_said : Result ℕ RegisterError → Answer ℕ
+register_said (Ok n) = given n
+register_said (Err NoGroup) = refused 11 0
+register_said (Err NoRegister) = refused 12 0
+register_said (Err NotFitted) = refused 8 0
+register_said (Err NoRoom) = refused 13 0
 
 -- a reply: the answer, and the buffer after the call
 pub record RegisterReply : Type 0 where
@@ -128,7 +127,7 @@ pub record RegisterReply : Type 0 where
   pub buffer : List ℕ
 
 -- the code's answer with the buffer after the call
-abbrev pub replied : RegisterAnswer → List ℕ → RegisterReply
+abbrev pub replied : Result ℕ RegisterError → List ℕ → RegisterReply
 replied answer buffer = record { answer = register_said answer; buffer = buffer }
 
 -- a refusal: "a refused call changes no byte of any buffer lent to it"

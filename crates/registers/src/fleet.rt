@@ -1,20 +1,9 @@
 // The fleet of serial meters: masks of meters by age class, counted, and the sum of the awake values.
 ghost use Rattle.std.specs.Prelude.{◌≡◌, cond, ◌+◌, ◌≤◌, ◌^◌, pos, nat_abs, ◌+ℤ◌};
-ghost use Rattle.recorder.specs.Meters.{age_number};
-ghost use Rattle.registers.specs.Fleet.{meter_class, fleet_of};
+ghost use Rattle.registers.specs.Fleet.{class_number, meter_class, fleet_of};
 
 use recorder::{Age, Meter, Recorder};
 use tariff::with_bit;
-
-pub(crate) const AWAKE: u8 = 0;
-
-const STALE: u8 = 1;
-
-const INVALID: u8 = 2;
-
-pub(crate) const NEVER: u8 = 3;
-
-const NOT_FITTED: u8 = 4;
 
 // How many meters are fitted, how many of these are of each class, and the sum of the awake values.
 #[derive(Clone, Copy)]
@@ -27,25 +16,15 @@ pub struct Fleet {
     pub sum: i64,
 }
 
-fn age_number(age: Age) -> u8
-    ensures { result ≡ age_number age }
-{
-    match age {
-        Age::Awake => AWAKE,
-        Age::Stale => STALE,
-        Age::Invalid => INVALID,
-        Age::Never => NEVER,
-    }
-}
-
-// A meter with limit 0 is not fitted.
-pub(crate) fn meter_class(limit: u16, meter: Meter, clock: u32) -> u8
-    ensures { result ≡ meter_class limit meter clock }
+// A meter with limit 0 is not fitted and has no class.
+#[tactic(auto, unfolding(crate::specs::Fleet::meter_class))]
+pub(crate) fn meter_class(limit: u16, meter: Meter, clock: u32) -> Option<Age>
+    ensures { class_number result ≡ meter_class limit meter clock }
 {
     if limit == 0 {
-        return NOT_FITTED;
+        return None;
     }
-    age_number(recorder::age_class(
+    Some(recorder::age_class(
         limit as u32,
         meter.read,
         meter.stamp,
@@ -59,7 +38,7 @@ fn plus_if(sum: i64, wanted: bool, value: i32) -> i64
     requires { nat_abs sum ≤ 2 ^ 62 }
     ensures { (result ≡ sum +ℤ cond wanted value (pos 0)) × (nat_abs result ≤ nat_abs sum + 2 ^ 31) }
 {
-    if wanted { sum + value as i64 } else { sum }
+    if wanted { sum + i64::from(value) } else { sum }
 }
 
 // One look at each meter makes the masks of the four classes and the sum. The fitted meters are those of any class.
@@ -79,11 +58,11 @@ pub fn fleet_of(recorder: Recorder) -> Fleet
     for i in 0..32usize {
         let meter = meters[i];
         let class = meter_class(limits[i], meter, clock);
-        awake = with_bit(awake, i, class == AWAKE);
-        stale = with_bit(stale, i, class == STALE);
-        invalid = with_bit(invalid, i, class == INVALID);
-        never = with_bit(never, i, class == NEVER);
-        sum = plus_if(sum, class == AWAKE, meter.value);
+        awake = with_bit(awake, i, class == Some(Age::Awake));
+        stale = with_bit(stale, i, class == Some(Age::Stale));
+        invalid = with_bit(invalid, i, class == Some(Age::Invalid));
+        never = with_bit(never, i, class == Some(Age::Never));
+        sum = plus_if(sum, class == Some(Age::Awake), meter.value);
     }
     let fitted = awake | stale | invalid | never;
     Fleet {

@@ -3,9 +3,8 @@
 
 mod contents;
 mod fleet;
-mod numbers;
 
-ghost use Rattle.std.specs.Prelude.{◌≡◌, ◌++◌, ◌<◌, ◌≤◌, length, take, drop};
+ghost use Rattle.std.specs.Prelude.{◌≡◌, ◌<◌};
 ghost use Rattle.registers.specs.Registers.{layout_said, layout_of, registers_of, fitted, register_said, replied, register_reply};
 
 use contents::contents;
@@ -13,10 +12,9 @@ pub use fleet::{Fleet, fleet_of};
 use image::Config;
 use recorder::Recorder;
 
-// The answer to a request: how many bytes were given, or the refusal.
-#[derive(Clone, Copy)]
-pub enum RegisterAnswer {
-    Given(usize),
+// The refusals of a request.
+#[derive(Clone, Copy, Debug, PartialEq, Eq)]
+pub enum RegisterError {
     NoGroup,
     NoRegister,
     NotFitted,
@@ -25,28 +23,31 @@ pub enum RegisterAnswer {
 
 // How many registers a group has, and how many bytes each.
 #[derive(Clone, Copy)]
-enum Layout {
-    Of(u32, usize),
-    NoGroup,
+struct Layout {
+    registers: u32,
+    bytes: usize,
 }
 
-fn layout_of(group: u32) -> Layout
+#[tactic(auto, unfolding(crate::specs::Registers::groups, crate::specs::Registers::look_up))]
+fn layout_of(group: u32) -> Option<Layout>
     ensures { layout_said result ≡ layout_of group }
 {
-    match group {
-        82 => Layout::Of(32, 10),
-        89 => Layout::Of(1, 2),
-        90 => Layout::Of(32, 1),
-        91 => Layout::Of(16, 1),
-        201..=202 => Layout::Of(16, 13),
-        203 => Layout::Of(16, 4),
-        204 => Layout::Of(1, 13),
-        206 => Layout::Of(1, 5),
-        _ => Layout::NoGroup,
-    }
+    let (registers, bytes) = match group {
+        82 => (32, 10),
+        89 => (1, 2),
+        90 => (32, 1),
+        91 => (16, 1),
+        201..=202 => (16, 13),
+        203 => (16, 4),
+        204 => (1, 13),
+        206 => (1, 5),
+        _ => return None,
+    };
+    Some(Layout { registers, bytes })
 }
 
 // A meter, slot, bill register or input that is not in use has no register; all others are there always.
+#[tactic(auto, unfolding(crate::specs::Registers::groups, crate::specs::Registers::look_up))]
 fn is_fitted(config: Config, group: u32, register: u32) -> bool
     requires { register < registers_of group }
     ensures { result ≡ fitted config group register }
@@ -59,30 +60,17 @@ fn is_fitted(config: Config, group: u32, register: u32) -> bool
         }
         201 => {
             let slots = config.slots;
-            let slot = slots[i];
-            slot.level != 255
+            slots[i].level != 255
         }
         202 => {
             let bills = config.registers;
-            let bill = bills[i];
-            bill.sum != 255
+            bills[i].sum != 255
         }
         203 => {
             let inputs = config.inputs;
-            let input = inputs[i];
-            input.kind != 0
+            inputs[i].kind != 0
         }
         _ => true,
-    }
-}
-
-// The first n bytes go to the front of the buffer.
-fn give(buf: &mut [u8], bytes: [u8; 13], n: usize)
-    requires { (n ≤ 13) × (n ≤ length buf.old) }
-    ensures { buf.new ≡ take n bytes ++ drop n buf.old }
-{
-    for i in 0..n {
-        buf[i] = bytes[i];
     }
 }
 
@@ -92,26 +80,20 @@ pub fn read_register(
     group: u32,
     register: u32,
     buf: &mut [u8],
-) -> RegisterAnswer
+) -> Result<usize, RegisterError>
     ensures { replied result buf.new ≡ register_reply recorder group register buf.old }
 {
-    match layout_of(group) {
-        Layout::NoGroup => RegisterAnswer::NoGroup,
-        Layout::Of(registers, bytes) => {
-            if register >= registers {
-                return RegisterAnswer::NoRegister;
-            }
-            let config = recorder.config;
-            let there = is_fitted(config, group, register);
-            let room = bytes <= buf.len();
-            if !there {
-                return RegisterAnswer::NotFitted;
-            }
-            if !room {
-                return RegisterAnswer::NoRoom;
-            }
-            give(buf, contents(recorder, group, register), bytes);
-            RegisterAnswer::Given(bytes)
-        }
+    let Layout { registers, bytes } = layout_of(group).ok_or(RegisterError::NoGroup)?;
+    if register >= registers {
+        return Err(RegisterError::NoRegister);
     }
+    if !is_fitted(recorder.config, group, register) {
+        return Err(RegisterError::NotFitted);
+    }
+    if bytes > buf.len() {
+        return Err(RegisterError::NoRoom);
+    }
+    let held = contents(recorder, group, register);
+    buf[..bytes].copy_from_slice(&held[..bytes]);
+    Ok(bytes)
 }

@@ -1,5 +1,5 @@
 -- Laws of what a sample books.
-use Rattle.std.specs.Prelude.{if◌then◌else◌}
+use Rattle.std.specs.Prelude.{Option, Some, if◌then◌else◌}
 use mathlib.Core.Path.{◌≡◌, refl, sym, ap, ◌∙◌}
 use mathlib.Core.Bool.{Bool, true, false, not, ◌&&◌}
 use mathlib.Core.List.{List}
@@ -33,7 +33,6 @@ use Rattle.counting.specs.declared.Bill.{Bill}
 use Rattle.counting.proofs.Parts.{lines_by_mask, none_settled, none_brought, full_by_mask, bills_by_mask}
 use Rattle.sampling.specs.Samples.{booking_of}
 use Rattle.sampling.specs.Kept.{InForce, fed_at_clock, restored_lines}
-use Rattle.sampling.specs.declared.booking.Tariffs.{Tariffs}
 
 -- a register that gets nothing stays as it is
 none_billed : (bill : Bill) → billed bill 0 ≡ bill
@@ -147,14 +146,14 @@ module _ (c : Config) (clock : ℕ) (lines : List Line) (bills : List Bill) (amo
         (λ i. record { full = sym full i; lines = advanced_lines (settled_of c.inputs lines ending).lines mask; bills = sym booked i })
 
   -- what a sample that fills no register leaves before the runs go on: the lines, the amounts and the tariffs
-  pub record Left (left : List Line) (open_amounts : List ℕ) (tariffs : Tariffs) : Type 0 where
+  pub record Left (left : List Line) (open_amounts : List ℕ) (tariffs : Option ℕ) : Type 0 where
     pub books : record { full = false; lines = advanced_lines left mask; bills = with_amounts bills open_amounts } ≡ booking_of c clock lines (with_amounts bills amounts) mask
     pub lines_sixteen : length left ≡ 16
     pub amounts_sixteen : length open_amounts ≡ 16
     pub in_force_lem : InForce c clock tariffs
 
   -- where no run ends
-  pub unended : (left : List Line) (open_amounts : List ℕ) (tariffs known : Tariffs) → ending ≡ 0 → length lines ≡ 16 → length amounts ≡ 16 → InForce c clock known
+  pub unended : (left : List Line) (open_amounts : List ℕ) (tariffs known : Option ℕ) → ending ≡ 0 → length lines ≡ 16 → length amounts ≡ 16 → InForce c clock known
       → left ≡ lines → open_amounts ≡ amounts → tariffs ≡ known → Left left open_amounts tariffs
   unended left open_amounts tariffs known none size sizes force l a t =
       let units = (settled_of c.inputs lines ending).units in
@@ -166,16 +165,16 @@ module _ (c : Config) (clock : ℕ) (lines : List Line) (bills : List Bill) (amo
       rw (l, a, t) (record { books = rw kept at (whole_booking units fed refl refl lines settles empty); lines_sixteen = size; amounts_sixteen = sizes; in_force_lem = force })
 
   -- where some end, and no register is full
-  pub ended : (left : List Line) (open_amounts units : List ℕ) (tariffs : Tariffs) → left ≡ (settled_of c.inputs lines ending).lines → units ≡ (settled_of c.inputs lines ending).units
-      → tariffs.fed ≡ fed_at_clock c clock → some_full c.registers amounts tariffs.fed (sums_of c.sums units) ≡ false
-      → open_amounts ≡ amounts_booked c.registers amounts tariffs.fed (sums_of c.sums units) → Left left open_amounts tariffs
+  pub ended : (left : List Line) (open_amounts units : List ℕ) (fed : ℕ) → left ≡ (settled_of c.inputs lines ending).lines → units ≡ (settled_of c.inputs lines ending).units
+      → fed ≡ fed_at_clock c clock → some_full c.registers amounts fed (sums_of c.sums units) ≡ false
+      → open_amounts ≡ amounts_booked c.registers amounts fed (sums_of c.sums units) → Left left open_amounts (Some fed)
   unfolding settled_of amounts_booked
-  ended left open_amounts units tariffs settles brings force none books =
+  ended left open_amounts units fed settles brings force none books =
       record {
-        books = rw (books, none) (rw none at (whole_booking units tariffs.fed brings force left settles none));
+        books = rw (books, none) (rw none at (whole_booking units fed brings force left settles none));
         lines_sixteen = rw settles (length_table 16 _);
         amounts_sixteen = rw (books, none) (length_table 16 _);
-        in_force_lem = λ e. force;
+        in_force_lem = force;
       }
 
 -- units of nothing, with nothing put in

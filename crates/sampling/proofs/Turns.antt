@@ -1,4 +1,5 @@
 -- One turn of a run of samples: which lines are active, and what each way through a sample does.
+use Rattle.std.specs.Prelude.{Option, None, Some}
 use mathlib.Core.Path.{◌≡◌, refl, sym, ap, ◌∙◌}
 use mathlib.Core.Bool.{Bool, true, false, not, ◌&&◌, ◌||◌, and-true, and-false}
 use mathlib.Core.List.{List}
@@ -8,8 +9,8 @@ use native.Mathlib.Omega.{arith}
 use lib.Dec.{ltb, leb, eqb}
 use lib.Bits.{bit_and, bit_or, bit_xor, and_le_r, or_lt}
 use lib.ListN.{length, get_or, drop}
-use borrow.Author.Tests.{lt-ltb, ltb-true, ltb-false, lt-leb, le-leb, eqb-true, eqb-false, ne_eqb}
-use Rattle.laws.proofs.Tests.{by_test, and_left, and_right}
+use borrow.Author.Tests.{lt-ltb, ltb-false, lt-leb, le-leb, eqb-true, eqb-false, ne_eqb}
+use Rattle.laws.proofs.Tests.{by_test}
 use Rattle.laws.specs.Answers.{given, refused}
 use Rattle.laws.specs.Masks.{mask_of, bit_at}
 use Rattle.laws.proofs.Masks.{bit_at_lem, bit_zero, mask_below, mask_cong, mask_ext, mask_zero}
@@ -21,7 +22,6 @@ use Rattle.counting.specs.Filter.{input_at, line_at, active, next_run, accepted,
 use Rattle.counting.specs.ByMask.{kind_mask, running_lines, fed_registers}
 use Rattle.tariff.proofs.Laws.{next_same}
 use Rattle.sampling.specs.Kept.{InForce, aged_to}
-use Rattle.sampling.specs.declared.booking.Tariffs.{Tariffs}
 use Rattle.sampling.specs.Samples.{Booking, booking_of, active_at, active_lines, put_in}
 use Rattle.sampling.specs.Laps.{counted_open, sample_open, closing, lap_of}
 use Rattle.counting.specs.declared.Line.{Line}
@@ -170,11 +170,10 @@ module _ (c : Config) (rest : State) (clock count : ℕ) (lines : List Line) (bi
     running_after = rw (booked, on) (sym (runs_after c clock lines bills bits))
 
 -- tariffs that are known at a second are those of the next one, but for a new minute
-pub aged_in_force : (c : Config) (clock : ℕ) (tariffs : Tariffs) → InForce c clock tariffs → InForce c (clock + 1) (aged_to (clock + 1) tariffs)
-aged_in_force c clock tariffs known e =
-    let now = known (and_left tariffs.known _ e) in
-    let later = ltb-true 0 ((clock + 1) % 60) (and_right tariffs.known _ e) in
-    now ∙ ap (fed_registers c.registers) (sym (next_same c.program clock (ne_eqb ((clock + 1) % 60) 0 (λ z. omega arith))))
+pub aged_in_force : (c : Config) (clock : ℕ) (tariffs : Option ℕ) → InForce c clock tariffs → InForce c (clock + 1) (aged_to (clock + 1) tariffs)
+aged_in_force c clock None known = by_test (eqb ((clock + 1) % 60) 0) (λ e. rw e tt) (λ e. rw e tt)
+aged_in_force c clock (Some fed) known =
+    by_test (eqb ((clock + 1) % 60) 0) (λ e. rw e tt) (λ e. rw e (known ∙ ap (fed_registers c.registers) (sym (next_same c.program clock e))))
 
 -- where the second is full and the clock not at its end, it can step
 pub not_at_end : (clock count : ℕ) → (eqb clock 4_294_967_295 && leb 99 count) ≡ false → 99 ≤ count → clock ≤ 4_294_967_295 → clock < 4_294_967_295

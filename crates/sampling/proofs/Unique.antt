@@ -1,5 +1,5 @@
 -- No second result fits the contract of a public function of the sampling.
-use Rattle.std.specs.Prelude.{if◌then◌else◌}
+use Rattle.std.specs.Prelude.{Result, Ok, Err, if◌then◌else◌}
 use mathlib.Core.Path.{◌≡◌, refl, sym, ap, ◌∙◌}
 use Prim.Native.Nat.{ℕ}
 use lib.Dec.{eqb}
@@ -7,24 +7,24 @@ use Rattle.laws.specs.Unique.{OneResult}
 use Rattle.laws.proofs.Unique.{told_apart}
 use Rattle.sampling.specs.Samples.{sample_number}
 use Rattle.sampling.specs.Laps.{LapReply}
-use Rattle.sampling.specs.declared.SampleAnswer.{SampleAnswer}
-use Rattle.sampling.specs.declared.SampleAnswer.TheVariants.{Taken, ProfileBuffer, ClockEnd, Full}
+use Rattle.sampling.specs.declared.SampleError.{SampleError}
+use Rattle.sampling.specs.declared.SampleError.TheVariants.{ProfileBuffer, ClockEnd, Full}
 use Rattle.sampling.proofs.samples.take.Reads as take_reads
 use Rattle.sampling.proofs.clock.close_with.Reads as close_with_reads
 use Rattle.sampling.proofs.clock.close.Reads as close_reads
 
 -- document 01's number tells all answers to a sample apart
-pub sample_apart : (x y : SampleAnswer) → sample_number x ≡ sample_number y → x ≡ y
+pub sample_apart : (x y : Result (Unit {0}) SampleError) → sample_number x ≡ sample_number y → x ≡ y
 sample_apart = told_apart sample_number back told
   where
-    back : ℕ → SampleAnswer
-    back n = if eqb n 14 then ProfileBuffer else if eqb n 5 then ClockEnd else if eqb n 6 then Full else Taken
+    back : ℕ → Result (Unit {0}) SampleError
+    back n = if eqb n 14 then Err ProfileBuffer else if eqb n 5 then Err ClockEnd else if eqb n 6 then Err Full else Ok tt
 
-    told : (x : SampleAnswer) → back (sample_number x) ≡ x
-    told Taken = refl
-    told ProfileBuffer = refl
-    told ClockEnd = refl
-    told Full = refl
+    told : (x : Result (Unit {0}) SampleError) → back (sample_number x) ≡ x
+    told (Ok taken) = refl
+    told (Err ProfileBuffer) = refl
+    told (Err ClockEnd) = refl
+    told (Err Full) = refl
 
 pub close_with : OneResult close_with_reads.Post
 close_with κs a x y e f p q = p ∙ sym q

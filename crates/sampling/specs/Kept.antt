@@ -1,5 +1,5 @@
 -- What the code of a run of samples keeps beside the state: the tariffs of the minute, the lines as they were, the units of a sample; and the samples that only count.
-use Rattle.std.specs.Prelude.{◌≡◌, true, false, ◌&&◌, List, ℕ, ◌+◌, ◌%◌, ◌<◌, ltb, get_or, if◌then◌else◌}
+use Rattle.std.specs.Prelude.{◌≡◌, false, List, Option, None, Some, ℕ, ◌+◌, ◌%◌, ◌<◌, eqb, get_or, if◌then◌else◌}
 use Rattle.std.specs.Int.Bits.{bit_and, bit_xor}
 use Rattle.laws.specs.Masks.{bit_at}
 use Rattle.laws.specs.Tables.{table}
@@ -9,19 +9,19 @@ use Rattle.counting.specs.Bills.{unit_at}
 use Rattle.counting.specs.ByMask.{fed_registers}
 use Rattle.counting.specs.Filter.{line_at}
 use Rattle.counting.specs.declared.Line.{Line}
-use Rattle.sampling.specs.declared.booking.Tariffs.{Tariffs}
 
 -- the registers that units go to at a second
 abbrev pub fed_at_clock : Config → ℕ → ℕ
 fed_at_clock c clock = fed_registers c.registers (force_map_at c.program clock)
 
--- tariffs that are known are those in force
-abbrev pub InForce : Config → ℕ → Tariffs → Type 0
-InForce c clock tariffs = tariffs.known ≡ true → tariffs.fed ≡ fed_at_clock c clock
+-- the tariffs that are known, the registers that units go to, are those in force
+abbrev pub InForce : Config → ℕ → Option ℕ → Type 0
+InForce c clock None = Unit
+InForce c clock (Some fed) = fed ≡ fed_at_clock c clock
 
 -- the tariffs at the next second; a new minute has others
-abbrev pub aged_to : ℕ → Tariffs → Tariffs
-aged_to clock tariffs = record { known = tariffs.known && ltb 0 (clock % 60); fed = tariffs.fed }
+abbrev pub aged_to : ℕ → Option ℕ → Option ℕ
+aged_to clock tariffs = if eqb (clock % 60) 0 then None else tariffs
 
 -- only lines of a mask bring units, and where `brought` is 0 none does
 pub record Brings (units : List ℕ) (ending brought : ℕ) : Type 0 where

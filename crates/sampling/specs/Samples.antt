@@ -1,5 +1,5 @@
 -- One sample, in the order of document 01's sentences, and a run of samples. "Order: .. sample 5, 6."
-use Rattle.std.specs.Prelude.{Bool, ◌&&◌, List, [], ◌∷◌, ℕ, suc, ◌+◌, leb, eqb, if◌then◌else◌}
+use Rattle.std.specs.Prelude.{Bool, ◌&&◌, List, [], ◌∷◌, Result, Ok, Err, ℕ, suc, ◌+◌, leb, eqb, if◌then◌else◌}
 use Rattle.laws.specs.Answers.{Answer, given, refused, RunReply}
 use Rattle.laws.specs.Masks.{mask_of, bit_at}
 use Rattle.tariff.specs.Rules.{force_map_at}
@@ -10,8 +10,8 @@ use Rattle.counting.specs.Units.{credits_of}
 use Rattle.counting.specs.Bills.{sums_of, booked_of}
 use Rattle.sampling.specs.Periods.{tick_of}
 use Rattle.sampling.specs.declared.State.{State}
-use Rattle.sampling.specs.declared.SampleAnswer.{SampleAnswer}
-use Rattle.sampling.specs.declared.SampleAnswer.TheVariants.{Taken, ProfileBuffer, ClockEnd, Full}
+use Rattle.sampling.specs.declared.SampleError.{SampleError}
+use Rattle.sampling.specs.declared.SampleError.TheVariants.{ProfileBuffer, ClockEnd, Full}
 use Rattle.counting.specs.declared.Line.{Line}
 use Rattle.counting.specs.declared.Bill.{Bill}
 
@@ -90,8 +90,8 @@ samples_of c s [] = record { taken = 0; number = 0; after = s }
 samples_of c s (bits ∷ more) = onward s (sample_of c s bits) (λ next. samples_of c next more)
 
 -- document 01's number of an answer; 0 where the sample was taken
-abbrev pub sample_number : SampleAnswer → ℕ
-sample_number Taken = 0
-sample_number ProfileBuffer = 14
-sample_number ClockEnd = 5
-sample_number Full = 6
+abbrev pub sample_number : Result (Unit {0}) SampleError → ℕ
+sample_number (Ok taken) = 0
+sample_number (Err ProfileBuffer) = 14
+sample_number (Err ClockEnd) = 5
+sample_number (Err Full) = 6

@@ -7,37 +7,27 @@ ghost use Rattle.sampling.specs.Kept.{InForce, fed_at_clock, aged_to, Brings};
 use counting::bills::{fed_registers, register_units, some_full, sums_units};
 use settings::{Config, Register};
 
-// The registers that units go to by the tariffs in force, once they are worked out: they stay the same to the end of the minute.
-#[derive(Clone, Copy)]
-pub struct Tariffs {
-    pub known: bool,
-    pub fed: u16,
-}
-
-// The tariffs with the registers worked out.
-pub(crate) fn tariffs_at(config: Config, clock: u32, tariffs: Tariffs) -> Tariffs
+// The registers that units go to by the tariffs in force, taken from where they were worked out in this minute.
+pub(crate) fn fed_by(config: Config, clock: u32, tariffs: Option<u16>) -> u16
     requires { InForce config clock tariffs }
-    ensures { result.fed ≡ fed_at_clock config clock }
+    ensures { result ≡ fed_at_clock config clock }
 {
-    if tariffs.known {
-        return tariffs;
+    if let Some(fed) = tariffs {
+        return fed;
     }
     let registers = config.registers;
     let program = config.program;
-    Tariffs {
-        known: true,
-        fed: fed_registers(registers, tariff::force_map_at(program, clock)),
-    }
+    fed_registers(registers, tariff::force_map_at(program, clock))
 }
 
-// The tariffs at the next second.
-pub(crate) fn aged(tariffs: Tariffs, clock: u32) -> Tariffs
+// What was worked out, at the next second: a new minute has other tariffs.
+pub(crate) fn aged(tariffs: Option<u16>, clock: u32) -> Option<u16>
     ensures { result ≡ aged_to clock tariffs }
 {
-    Tariffs {
-        known: tariffs.known & (0 < clock % 60),
-        fed: tariffs.fed,
+    if clock % 60 == 0 {
+        return None;
     }
+    tariffs
 }
 
 // An amount with units that do not take it past 999,999,999.

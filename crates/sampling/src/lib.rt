@@ -8,6 +8,7 @@ pub mod samples;
 use counting::{Bill, Line};
 
 // One serial meter: its last reading, if there was one.
+// `read` is no `Option` around the rest: `Stored` (demands/specs/Repeats.antt), `meter_in` (State.antt) and `Demand2.antt` name the five fields.
 #[derive(Clone, Copy)]
 pub struct Meter {
     pub read: bool,
@@ -18,6 +19,7 @@ pub struct Meter {
 }
 
 // The last closed period, level 9: 0 none, 1 short, 2 whole; its closing time; the values of the 16 slots.
+// `state` is the byte of register 201: `slot_shown` (demands/specs/Shown.antt), `last_period` (State.antt) and `Profile.antt` name it as a number.
 #[derive(Clone, Copy)]
 pub struct Period {
     pub state: u8,
@@ -37,10 +39,9 @@ pub struct State {
     pub closed: Period,
 }
 
-// The answer to a sample. PROFILE BUFFER is given by the recorder, to which the profile's buffer is lent.
-#[derive(Clone, Copy)]
-pub enum SampleAnswer {
-    Taken,
+// Why a sample is refused. PROFILE BUFFER is given by the recorder, to which the profile's buffer is lent.
+#[derive(Clone, Copy, Debug, PartialEq, Eq)]
+pub enum SampleError {
     ProfileBuffer,
     ClockEnd,
     Full,

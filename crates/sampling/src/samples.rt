@@ -4,9 +4,9 @@ ghost use Rattle.sampling.specs.Samples.{put_in};
 ghost use Rattle.sampling.specs.Laps.{lap_of, lap_said};
 ghost use Rattle.sampling.specs.Kept.{Idle, restored_lines};
 
-use crate::booking::{Tariffs, aged, book, tariffs_at};
+use crate::booking::{aged, book, fed_by};
 use crate::clock::is_multiple;
-use crate::{Bill, Line, SampleAnswer, State};
+use crate::{Bill, Line, SampleError, State};
 use counting::bills::{amounts_of, put_amounts};
 use counting::filter::{advance, kind_mask, running_lines};
 use counting::units::settle;
@@ -17,7 +17,7 @@ use settings::Config;
 pub struct Lap {
     pub state: State,
     pub taken: usize,
-    pub answer: SampleAnswer,
+    pub answer: Result<(), SampleError>,
     pub closes: bool,
 }
 
@@ -115,11 +115,8 @@ pub fn take(config: Config, start: State, bits: &[u16]) -> Lap
     let mut lines = start.lines;
     let mut amounts = amounts_of(bills);
     let mut running = running_lines(lines);
-    let mut tariffs = Tariffs {
-        known: false,
-        fed: 0,
-    };
-    let mut answer = SampleAnswer::Taken;
+    let mut tariffs: Option<u16> = None;
+    let mut answer = Ok(());
     let mut closes = false;
     let mut k: usize = 0;
     while k < bits.len() {
@@ -132,7 +129,7 @@ pub fn take(config: Config, start: State, bits: &[u16]) -> Lap
             }
         }
         if (clock == 4294967295) & (99 <= count) {
-            answer = SampleAnswer::ClockEnd;
+            answer = Err(SampleError::ClockEnd);
             break;
         }
         // S1r is active open; bits of inputs that are not fitted are ignored.
@@ -160,11 +157,12 @@ pub fn take(config: Config, start: State, bits: &[u16]) -> Lap
                 lines[i] = next;
                 left = left & (left - 1);
             }
-            tariffs = tariffs_at(config, clock, tariffs);
+            let fed = fed_by(config, clock, tariffs);
+            tariffs = Some(fed);
             // Nothing of a sample that is refused is kept.
-            if book(&mut amounts, config, tariffs.fed, ending, units, brought) {
+            if book(&mut amounts, config, fed, ending, units, brought) {
                 lines = restored(lines, old, ending);
-                answer = SampleAnswer::Full;
+                answer = Err(SampleError::Full);
                 break;
             }
         }

@@ -35,6 +35,10 @@ sections c =
     ∷ section 1094 2 16 (λ i. register_good (get_or c.registers i zero_register))
     ∷ []
 
+-- each result of a call is what the rule says
+abbrev pub Says : {A : Type 0} → (A → Bool → Type 0) → (A → Bool) → Type 0
+Says {A} post rule = (x : A) (r : Bool) → post x r → r ≡ rule x
+
 -- what is said of a section whose first bad entry is i: 4 VALUE with the offset of that entry, or nothing where i is the count
 abbrev pub verdict_at : ℕ → ℕ → ℕ → ℕ → Answer (Unit {0})
 verdict_at base size count i = if ltb i count then refused 4 (base + size * i) else given tt

@@ -3,10 +3,14 @@
 
 mod rules;
 
-ghost use Rattle.std.specs.Prelude.{◌≡◌, ◌+◌, ◌*◌, ◌<◌};
-ghost use Rattle.settings.specs.Check.{verdict_at, or_else, checked};
+ghost use Rattle.std.specs.Prelude.{◌≡◌, ◌+◌, ◌*◌, ◌<◌, Bool, get_or};
+ghost use Rattle.laws.specs.Broken.{first_broken};
+ghost use Rattle.settings.specs.Check.{Says, verdict_at, checked};
 ghost use Rattle.settings.specs.Verdicts.{verdict_said};
 
+use rules::{
+    coefficient, fitted, holiday, input, period, register, rule, season, slot, sum, week, window,
+};
 use tariff::Program;
 
 // Where the sections of the image begin: the offset of a bad entry is reckoned from here, and the image is read and written there.
@@ -71,64 +75,45 @@ pub struct Config {
     pub registers: [Register; 16],
 }
 
-// What a check finds: nothing, or the offset of the first entry that breaks its rule.
-#[derive(Clone, Copy)]
-pub enum Verdict {
-    Good,
-    Value(usize),
+// An entry that breaks its rule: the offset of its first byte.
+#[derive(Clone, Copy, Debug, PartialEq, Eq)]
+pub struct BadValue {
+    pub offset: usize,
 }
 
-// The verdict on a section: entry i of its entries is the first that breaks its rule, or there is none where i is their count.
-fn section(base: usize, size: usize, count: usize, i: usize) -> Verdict
-    requires { base + size * count < 65536 }
-    ensures { verdict_said result ≡ verdict_at base size count i }
+// The check of a section, whose first entry stands at `base` and is `size` bytes: each entry is good, or the first that is not is named.
+fn check_entries<T: Copy, F: Fn(T) -> bool, const N: usize>(
+    base: usize,
+    size: usize,
+    entries: &[T; N],
+    good: F,
+) -> Result<(), BadValue>
+    requires callable { F.IsAlwaysCallable good }
+    requires fits { base + size * N < 65536 }
+    ensures { (rule : T → Bool) (d : T) → Says (F.post good) rule → verdict_said result ≡ verdict_at base size N (first_broken N (λ i. rule (get_or entries.now i d))) }
 {
-    if i < count {
-        Verdict::Value(base + size * i)
-    } else {
-        Verdict::Good
+    match entries.iter().position(|x| !good(*x)) {
+        Some(i) => Err(BadValue {
+            offset: base + size * i,
+        }),
+        None => Ok(()),
     }
 }
 
-// The first verdict, unless it is Good.
-fn or_else(a: Verdict, b: Verdict) -> Verdict
-    ensures { verdict_said result ≡ or_else (verdict_said a) (verdict_said b) }
-{
-    match a {
-        Verdict::Good => b,
-        Verdict::Value(_) => a,
-    }
-}
-
-// The sections are looked through from the last to the first, and the verdict on an earlier one comes before.
-pub fn check_config(config: Config) -> Verdict
+// The sections are looked through in the order of the image, and the first bad entry ends it.
+pub fn check_config(config: Config) -> Result<(), BadValue>
     ensures { verdict_said result ≡ checked config }
 {
-    let inputs = config.inputs;
-    let sums = config.sums;
-    let coefficients = config.coefficients;
-    let slots = config.slots;
-    let program = config.program;
-    let windows = program.windows;
-    let weeks = program.weeks;
-    let seasons = program.seasons;
-    let holidays = program.holidays;
-    let tariffs = program.rules;
-    let registers = config.registers;
-    let fitted = rules::fitted(inputs);
-    let mut v = Verdict::Good;
-    v = or_else(section(REGISTERS_AT, 2, 16, rules::registers(registers)), v);
-    v = or_else(section(RULES_AT, 2, 16, rules::tariff_rules(tariffs)), v);
-    v = or_else(section(HOLIDAYS_AT, 4, 32, rules::holidays(holidays)), v);
-    v = or_else(section(SEASONS_AT, 4, 8, rules::seasons(seasons)), v);
-    v = or_else(section(WEEKS_AT, 1, 128, rules::weeks(weeks)), v);
-    v = or_else(section(WINDOWS_AT, 4, 128, rules::windows(windows)), v);
-    v = or_else(section(SLOTS_AT, 2, 16, rules::slots(fitted, slots)), v);
-    v = or_else(
-        section(COEFFICIENTS_AT, 1, 32, rules::coefficients(coefficients)),
-        v,
-    );
-    v = or_else(section(SUMS_AT, 2, 8, rules::sums(fitted, sums)), v);
-    v = or_else(section(INPUTS_AT, 7, 16, rules::inputs(inputs)), v);
-    or_else(section(PERIOD_AT, 1, 1, rules::periods(config.period)), v)
+    let fitted = fitted(config.inputs);
+    check_entries(PERIOD_AT, 1, &[config.period], period)?;
+    check_entries(INPUTS_AT, 7, &config.inputs, input)?;
+    check_entries(SUMS_AT, 2, &config.sums, |x| sum(fitted, x))?;
+    check_entries(COEFFICIENTS_AT, 1, &config.coefficients, coefficient)?;
+    check_entries(SLOTS_AT, 2, &config.slots, |x| slot(fitted, x))?;
+    check_entries(WINDOWS_AT, 4, &config.program.windows, window)?;
+    check_entries(WEEKS_AT, 1, &config.program.weeks, week)?;
+    check_entries(SEASONS_AT, 4, &config.program.seasons, season)?;
+    check_entries(HOLIDAYS_AT, 4, &config.program.holidays, holiday)?;
+    check_entries(RULES_AT, 2, &config.program.rules, rule)?;
+    check_entries(REGISTERS_AT, 2, &config.registers, register)
 }

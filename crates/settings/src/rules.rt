@@ -1,14 +1,14 @@
-// The rule of each entry, and the first entry of each section that breaks it. Tests are joined by `&` and `|`, which compute both sides, as the
+// The rule of each entry. Tests are joined by `&` and `|`, which compute both sides, as the
 // definitions have them.
 ghost use Rattle.std.specs.Prelude.{◌≡◌, get_or, pos};
 ghost use Rattle.laws.specs.Broken.{first_broken};
-ghost use Rattle.laws.specs.Masks.{mask_of, bit_at};
+ghost use Rattle.laws.specs.Masks.{bit_at};
 ghost use Rattle.settings.specs.Rules.{period_good, input_good, fitted_in, sum_good, coefficient_good, slot_good, window_good, week_good, season_good, holiday_good, rule_good, register_good, zero_input, zero_slot, zero_window, zero_season, zero_holiday, zero_rule, zero_register};
 
 use crate::{Input, Register, Slot};
 use tariff::{Holiday, Rule, Season, Window};
 
-fn period(p: u8) -> bool
+pub(crate) fn period(p: u8) -> bool
     ensures { result ≡ period_good p }
 {
     match p {
@@ -17,7 +17,7 @@ fn period(p: u8) -> bool
     }
 }
 
-fn input(x: Input) -> bool
+pub(crate) fn input(x: Input) -> bool
     ensures { result ≡ input_good x }
 {
     let runs = (1 <= x.shortest) & (x.shortest <= x.longest);
@@ -31,7 +31,7 @@ fn input(x: Input) -> bool
 
 // The mask of the inputs that are fitted.
 pub(crate) fn fitted(inputs: [Input; 16]) -> u32
-    ensures { result ≡ mask_of 16 (fitted_in inputs) }
+    ensures { bit_at result ≡ fitted_in inputs }
 {
     let mut mask: u32 = 0;
     for i in 0..16usize {
@@ -45,20 +45,20 @@ pub(crate) fn fitted(inputs: [Input; 16]) -> u32
 }
 
 // No bit of a sum stands outside the mask.
-fn sum(fitted: u32, x: u16) -> bool
+pub(crate) fn sum(fitted: u32, x: u16) -> bool
     ensures { result ≡ sum_good (bit_at fitted) x }
 {
     let named = x as u32;
     named & fitted == named
 }
 
-fn coefficient(z: i8) -> bool
+pub(crate) fn coefficient(z: i8) -> bool
     ensures { result ≡ coefficient_good z }
 {
     -127 <= z
 }
 
-fn slot(fitted: u32, x: Slot) -> bool
+pub(crate) fn slot(fitted: u32, x: Slot) -> bool
     ensures { result ≡ slot_good (bit_at fitted) x }
 {
     let fits = tariff::bit_at(fitted, x.index as usize);
@@ -68,19 +68,19 @@ fn slot(fitted: u32, x: Slot) -> bool
         | ((x.level == 255) & (x.index == 0))
 }
 
-fn window(x: Window) -> bool
+pub(crate) fn window(x: Window) -> bool
     ensures { result ≡ window_good x }
 {
     ((x.first < x.end) & (x.end <= 1440)) | ((x.first == 0) & (x.end == 0))
 }
 
-fn week(x: u8) -> bool
+pub(crate) fn week(x: u8) -> bool
     ensures { result ≡ week_good x }
 {
     (x < 32) | (x == 255)
 }
 
-fn season(x: Season) -> bool
+pub(crate) fn season(x: Season) -> bool
     ensures { result ≡ season_good x }
 {
     let first = x.first;
@@ -91,7 +91,7 @@ fn season(x: Season) -> bool
     (begins & ends) | unused
 }
 
-fn holiday(x: Holiday) -> bool
+pub(crate) fn holiday(x: Holiday) -> bool
     ensures { result ≡ holiday_good x }
 {
     if x.year == 0 {
@@ -101,151 +101,14 @@ fn holiday(x: Holiday) -> bool
     (1970 <= x.year) & (x.year <= 2106) & calendar::day_exists(x.day, x.month, x.year)
 }
 
-fn rule(x: Rule) -> bool
+pub(crate) fn rule(x: Rule) -> bool
     ensures { result ≡ rule_good x }
 {
     (((x.season < 8) | (x.season == 255)) & (x.week < 16)) | ((x.season == 255) & (x.week == 255))
 }
 
-fn register(x: Register) -> bool
+pub(crate) fn register(x: Register) -> bool
     ensures { result ≡ register_good x }
 {
     ((x.sum < 8) & ((x.rule < 16) | (x.rule == 255))) | ((x.sum == 255) & (x.rule == 255))
-}
-
-// The period as a section of one entry.
-pub(crate) fn periods(p: u8) -> usize
-    ensures { result ≡ first_broken 1 (λ i. period_good p) }
-{
-    if period(p) { 1 } else { 0 }
-}
-
-pub(crate) fn inputs(xs: [Input; 16]) -> usize
-    ensures { result ≡ first_broken 16 (λ i. input_good (get_or xs i zero_input)) }
-{
-    let mut i = 0;
-    while i < 16 {
-        if !input(xs[i]) {
-            return i;
-        }
-        i += 1;
-    }
-    i
-}
-
-pub(crate) fn sums(fitted: u32, xs: [u16; 8]) -> usize
-    ensures { result ≡ first_broken 8 (λ i. sum_good (bit_at fitted) (get_or xs i 0)) }
-{
-    let mut i = 0;
-    while i < 8 {
-        if !sum(fitted, xs[i]) {
-            return i;
-        }
-        i += 1;
-    }
-    i
-}
-
-pub(crate) fn coefficients(xs: [i8; 32]) -> usize
-    ensures { result ≡ first_broken 32 (λ i. coefficient_good (get_or xs i (pos 0))) }
-{
-    let mut i = 0;
-    while i < 32 {
-        if !coefficient(xs[i]) {
-            return i;
-        }
-        i += 1;
-    }
-    i
-}
-
-pub(crate) fn slots(fitted: u32, xs: [Slot; 16]) -> usize
-    ensures { result ≡ first_broken 16 (λ i. slot_good (bit_at fitted) (get_or xs i zero_slot)) }
-{
-    let mut i = 0;
-    while i < 16 {
-        if !slot(fitted, xs[i]) {
-            return i;
-        }
-        i += 1;
-    }
-    i
-}
-
-pub(crate) fn windows(xs: [Window; 128]) -> usize
-    ensures { result ≡ first_broken 128 (λ i. window_good (get_or xs i zero_window)) }
-{
-    let mut i = 0;
-    while i < 128 {
-        if !window(xs[i]) {
-            return i;
-        }
-        i += 1;
-    }
-    i
-}
-
-pub(crate) fn weeks(xs: [u8; 128]) -> usize
-    ensures { result ≡ first_broken 128 (λ i. week_good (get_or xs i 0)) }
-{
-    let mut i = 0;
-    while i < 128 {
-        if !week(xs[i]) {
-            return i;
-        }
-        i += 1;
-    }
-    i
-}
-
-pub(crate) fn seasons(xs: [Season; 8]) -> usize
-    ensures { result ≡ first_broken 8 (λ i. season_good (get_or xs i zero_season)) }
-{
-    let mut i = 0;
-    while i < 8 {
-        if !season(xs[i]) {
-            return i;
-        }
-        i += 1;
-    }
-    i
-}
-
-pub(crate) fn holidays(xs: [Holiday; 32]) -> usize
-    ensures { result ≡ first_broken 32 (λ i. holiday_good (get_or xs i zero_holiday)) }
-{
-    let mut i = 0;
-    while i < 32 {
-        if !holiday(xs[i]) {
-            return i;
-        }
-        i += 1;
-    }
-    i
-}
-
-pub(crate) fn tariff_rules(xs: [Rule; 16]) -> usize
-    ensures { result ≡ first_broken 16 (λ i. rule_good (get_or xs i zero_rule)) }
-{
-    let mut i = 0;
-    while i < 16 {
-        if !rule(xs[i]) {
-            return i;
-        }
-        i += 1;
-    }
-    i
-}
-
-pub(crate) fn registers(xs: [Register; 16]) -> usize
-    ensures { result ≡ first_broken 16 (λ i. register_good (get_or xs i zero_register)) }
-{
-    let mut i = 0;
-    while i < 16 {
-        if !register(xs[i]) {
-            return i;
-        }
-        i += 1;
-    }
-    i
 }

@@ -1,9 +1,8 @@
 -- No second result fits the contract of a public function of the tariff program.
 use mathlib.Core.Path.{◌≡◌, sym, ◌∙◌}
+use Rattle.std.specs.Prelude.{ℕ, Option, Some, None}
 use Rattle.laws.specs.Unique.{OneResult}
 use Rattle.tariff.specs.Weekly.{place_of}
-use Rattle.tariff.specs.declared.Finding.{Finding}
-use Rattle.tariff.specs.declared.Finding.TheVariants.{At, Nothing}
 use Rattle.tariff.proofs.masks.bit_at.Reads as bit_at_reads
 use Rattle.tariff.proofs.masks.with_bit.Reads as with_bit_reads
 use Rattle.tariff.proofs.daily.daily_active.Reads as daily_active_reads
@@ -15,11 +14,11 @@ use Rattle.tariff.proofs.rules.force_map.Reads as force_map_reads
 use Rattle.tariff.proofs.rules.force_map_at.Reads as force_map_at_reads
 
 -- the place tells all findings apart
-pub place_apart : (x y : Finding) → place_of x ≡ place_of y → x ≡ y
-place_apart (At i) (At j) e = cc
-place_apart (At i) Nothing e = cc
-place_apart Nothing (At j) e = cc
-place_apart Nothing Nothing e = cc
+pub place_apart : (x y : Option ℕ) → place_of x ≡ place_of y → x ≡ y
+place_apart (Some i) (Some j) e = cc
+place_apart (Some i) None e = cc
+place_apart None (Some j) e = cc
+place_apart None None e = cc
 
 pub bit_at_lem : OneResult bit_at_reads.Post
 bit_at_lem κs a x y e f p q = p ∙ sym q

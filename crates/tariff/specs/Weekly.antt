@@ -1,6 +1,7 @@
 -- "A weekly rule uses the weekday's daily rule, on a holiday the holiday's one instead; 255 is inactive. The look through the holidays stops at the first that
 -- fits."
-use Rattle.std.specs.Prelude.{Bool, not, ◌&&◌, ◌||◌, List, ℕ, ◌+◌, ◌*◌, ltb, eqb, get_or, if◌then◌else◌}
+use Rattle.std.specs.Prelude as code
+use Rattle.std.specs.Prelude.{Bool, not, ◌&&◌, ◌||◌, List, ℕ, ◌+◌, ◌*◌, ltb, eqb, get_or, if◌then◌else◌, Some, None}
 use Rattle.std.proofs.Math.Option.{Option, some, none}
 use Rattle.laws.specs.First.{first}
 use Rattle.laws.specs.Masks.{mask_of}
@@ -8,8 +9,6 @@ use Rattle.calendar.specs.declared.Moment.{Moment}
 use Rattle.tariff.specs.Daily.{daily_active}
 use Rattle.tariff.specs.declared.Holiday.{Holiday}
 use Rattle.tariff.specs.declared.Program.{Program}
-use Rattle.tariff.specs.declared.Finding.{Finding}
-use Rattle.tariff.specs.declared.Finding.TheVariants.{At, Nothing}
 
 -- a holiday of zeros is unused
 abbrev pub unused_holiday : Holiday → Bool
@@ -34,10 +33,10 @@ first_holiday p day month year =
     let k = first 32 (λ i. holiday_fits (holiday_at p i) day month year) in
     if ltb k 32 then some k else none
 
--- what the code's finding says
-abbrev pub place_of : Finding → Option ℕ
-place_of (At k) = some k
-place_of Nothing = none
+-- what the code finds, in the definitions' `Option`
+abbrev pub place_of : code.Option ℕ → Option ℕ
+place_of (Some k) = some k
+place_of None = none
 
 -- the place of a day in a weekly rule: on a holiday the last, else its weekday's; 8 is no place
 abbrev pub column_of : ℕ → Option ℕ → ℕ

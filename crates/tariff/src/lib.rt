@@ -57,9 +57,3 @@ pub struct Program {
     pub holidays: [Holiday; 32],
     pub rules: [Rule; 16],
 }
-
-#[derive(Clone, Copy)]
-pub enum Finding {
-    At(usize),
-    Nothing,
-}

@@ -6,7 +6,7 @@ use crate::Program;
 use crate::masks::{bit_at, with_bit};
 use crate::seasons::{date_of, season_map};
 use crate::weekly::weekly_map;
-use calendar::{Dated, Moment};
+use calendar::Moment;
 
 // Bit i is tariff rule i. The windows, the holidays, the seasons and the rules are each gone through once.
 pub fn force_map(program: Program, m: Moment) -> u16
@@ -28,7 +28,7 @@ pub fn force_map_at(program: Program, seconds: u32) -> u16
     ensures { result ≡ force_map_at program seconds }
 {
     match calendar::moment_of(seconds) {
-        Dated::On(m) => force_map(program, m),
-        Dated::NoDate => 0,
+        Some(m) => force_map(program, m),
+        None => 0,
     }
 }

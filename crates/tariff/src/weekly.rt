@@ -5,7 +5,7 @@ ghost use Rattle.tariff.specs.Weekly.{holiday_fits, place_of, first_holiday, col
 
 use crate::daily::{daily_active, daily_map};
 use crate::masks::{bit_at, with_bit};
-use crate::{Finding, Holiday, Program};
+use crate::{Holiday, Program};
 use calendar::Moment;
 
 fn holiday_fits(h: Holiday, day: u8, month: u8, year: u16) -> bool
@@ -19,29 +19,30 @@ fn holiday_fits(h: Holiday, day: u8, month: u8, year: u16) -> bool
 }
 
 // The look stops at the first holiday that fits.
-pub fn holiday_on(program: Program, day: u8, month: u8, year: u16) -> Finding
+pub fn holiday_on(program: Program, day: u8, month: u8, year: u16) -> Option<usize>
     ensures { place_of result ≡ first_holiday program day month year }
 {
     let mut i: usize = 0;
     loop {
         if i >= 32 {
-            break Finding::Nothing;
+            break None;
         }
         let h = program.holidays[i];
         if holiday_fits(h, day, month, year) {
-            break Finding::At(i);
+            break Some(i);
         }
         i += 1;
     }
 }
 
-// The place of a day in the weekly rules: the holiday's, else the weekday's; 8 is none.
-fn column(weekday: u8, found: Finding) -> u8
+// The place of a day in the weekly rules: the holiday's, else the weekday's; 8 is none. No `Option`: that its place is below 8 would still be a test of `reference`.
+fn column(weekday: u8, found: Option<usize>) -> u8
     ensures { result ≡ column_of weekday (place_of found) }
 {
     match found {
-        Finding::At(_) => 7,
-        Finding::Nothing => if weekday < 7 { weekday } else { 8 },
+        Some(_) => 7,
+        None if weekday < 7 => weekday,
+        None => 8,
     }
 }
 
@@ -51,7 +52,7 @@ fn column_on(program: Program, m: Moment) -> u8
     column(m.weekday, holiday_on(program, m.day, m.month, m.year))
 }
 
-// The daily rule that a weekly rule names; 255 is none.
+// The daily rule that a weekly rule names. 255 is none in the configuration image too, so an `Option` would be a second way to say it.
 fn reference(weeks: [u8; 128], week: u8, column: u8) -> u8
     ensures { result ≡ reference_in weeks week column }
 {

@@ -1,4 +1,5 @@
 -- `image::write_then_read` meets its contract: a value of the code's type has the lengths and the ranges that the law asks for.
+use mathlib.Core.Path.{◌∙◌}
 use mathlib.Core.List.{List, [], ◌∷◌}
 use Prim.Native.Nat.{ℕ}
 use borrow.Author.Rules.{rules}
@@ -15,7 +16,7 @@ use Rattle.image.specs.Image.{Counted, Typed, TypedInput, TypedWindow, TypedHoli
 use Rattle.tariff.specs.contracts.Window as window
 use Rattle.tariff.specs.contracts.Holiday as holiday
 use Rattle.settings.specs.contracts.Input as input
-use Rattle.image.proofs.Trips.{value_back, comes_back}
+use Rattle.image.proofs.Trips.{value_back, room, comes_back}
 use Rattle.image.proofs.write_then_read.Goals as goal
 use Rattle.image.proofs.write_then_read.Goals.{Start}
 
@@ -53,9 +54,15 @@ typed c =
           };
     }
 
-pub returns-in-Value : goal.returns-in-Value
-returns-in-Value c = value_back _ _ c.in-Value.ensures.said c.refused.ensures
+pub returns-in-Ok : goal.returns-in-Ok
+returns-in-Ok c =
+    let s = (goal.at.returns-in-Ok c).Start in
+    c.read_image.ensures ∙ comes_back _ (counted s) (typed s) c.in-Ok.ensures.said c.write_image.ensures.buffer
 
-pub returns : goal.returns
-returns c =
-    comes_back _ (counted (goal.at.returns c).Start) (typed (goal.at.returns c).Start) c.in_default.not-Value c.write_image.ensures.said c.write_image.ensures.buffer c.read_image.ensures
+pub returns-in-Err-Value : goal.returns-in-Err-Value
+returns-in-Err-Value c =
+    let e = c.in-Err-Value.field-0-is in
+    rw e (value_back _ (rw e at c.in-Err-Value.ensures.said))
+
+pub unreachable-requires : goal.unreachable-requires
+unreachable-requires c = room _ (rw c.in-Err-NoRoom.field-0-is at c.in-Err-NoRoom.ensures.said)

@@ -1,36 +1,135 @@
--- `settings::check_config` meets its contract: the verdicts of the sections, one before another.
-use mathlib.Core.Path.{refl, ap, ◌∙◌}
-use mathlib.Core.Bool.{true}
-use Rattle.laws.specs.Masks.{bit_at}
-use Rattle.laws.proofs.Broken.{never_broken}
-use Rattle.settings.specs.Check.{sections, first_bad, checked}
-use Rattle.settings.proofs.Verdicts.{fitted_test, verdict_before, no_verdict}
+-- `settings::check_config` meets its contract: the sections, one after another.
+use mathlib.Core.Path.{refl}
+use lib.IntN.{pos}
+use Rattle.laws.specs.First.{first}
+use borrow.Author.Rules.{rules}
+use Rattle.settings.specs.Check.{sections, checked}
+use Rattle.settings.specs.Rules.{period_good, input_good, fitted_in, sum_good, coefficient_good, slot_good, window_good, week_good, season_good, holiday_good, rule_good, register_good, zero_input, zero_slot, zero_window, zero_season, zero_holiday, zero_rule, zero_register}
+use Rattle.settings.proofs.Verdicts.{past, stop, past_any, last, failed}
 use Rattle.settings.proofs.check_config.Goals as goal
 
+pub returns-in_err-check_entries : goal.returns-in_err-check_entries
+unfolding checked sections first
+returns-in_err-check_entries c =
+    failed _ c.from_residual.ensures.1
+    (stop (c.in_err-check_entries.ensures period_good 0 (λ x r p. p)))
+
+pub returns-in_err-check_entries-2 : goal.returns-in_err-check_entries-2
+unfolding checked sections first
+returns-in_err-check_entries-2 c =
+    failed _ c.from_residual-in_err-check_entries-2.ensures.1
+    (past (c.in_ok-check_entries.ensures period_good 0 (λ x r p. p))
+    (stop (c.in_err-check_entries-2.ensures input_good zero_input (λ x r p. p))))
+
+pub returns-in_err-check_entries-3 : goal.returns-in_err-check_entries-3
+unfolding checked sections first
+returns-in_err-check_entries-3 c =
+    failed _ c.from_residual-in_err-check_entries-3.ensures.1
+    (past (c.in_ok-check_entries.ensures period_good 0 (λ x r p. p))
+    (past (c.in_ok-check_entries-2.ensures input_good zero_input (λ x r p. p))
+    (stop (c.in_err-check_entries-3.ensures (sum_good (fitted_in c.args.config.inputs)) 0 (λ x r p. rw (← c.fitted-fitted.ensures) (search rules))))))
+
+pub returns-in_err-check_entries-4 : goal.returns-in_err-check_entries-4
+unfolding checked sections first
+returns-in_err-check_entries-4 c =
+    failed _ c.from_residual-in_err-check_entries-4.ensures.1
+    (past (c.in_ok-check_entries.ensures period_good 0 (λ x r p. p))
+    (past (c.in_ok-check_entries-2.ensures input_good zero_input (λ x r p. p))
+    (past (c.in_ok-check_entries-3.ensures (sum_good (fitted_in c.args.config.inputs)) 0 (λ x r p. rw (← c.fitted-fitted.ensures) (search rules)))
+    (stop (c.in_err-check_entries-4.ensures coefficient_good (pos 0) (λ x r p. p))))))
+
+pub returns-in_err-check_entries-5 : goal.returns-in_err-check_entries-5
+unfolding checked sections first
+returns-in_err-check_entries-5 c =
+    failed _ c.from_residual-in_err-check_entries-5.ensures.1
+    (past (c.in_ok-check_entries.ensures period_good 0 (λ x r p. p))
+    (past (c.in_ok-check_entries-2.ensures input_good zero_input (λ x r p. p))
+    (past (c.in_ok-check_entries-3.ensures (sum_good (fitted_in c.args.config.inputs)) 0 (λ x r p. rw (← c.fitted-fitted.ensures) (search rules)))
+    (past (c.in_ok-check_entries-4.ensures coefficient_good (pos 0) (λ x r p. p))
+    (stop (c.in_err-check_entries-5.ensures (slot_good (fitted_in c.args.config.inputs)) zero_slot (λ x r p. rw (← c.fitted-fitted.ensures) (search rules))))))))
+
+pub returns-in_err-check_entries-6 : goal.returns-in_err-check_entries-6
+unfolding checked sections first
+returns-in_err-check_entries-6 c =
+    failed _ c.from_residual-in_err-check_entries-6.ensures.1
+    (past (c.in_ok-check_entries.ensures period_good 0 (λ x r p. p))
+    (past (c.in_ok-check_entries-2.ensures input_good zero_input (λ x r p. p))
+    (past (c.in_ok-check_entries-3.ensures (sum_good (fitted_in c.args.config.inputs)) 0 (λ x r p. rw (← c.fitted-fitted.ensures) (search rules)))
+    (past (c.in_ok-check_entries-4.ensures coefficient_good (pos 0) (λ x r p. p))
+    (past (c.in_ok-check_entries-5.ensures (slot_good (fitted_in c.args.config.inputs)) zero_slot (λ x r p. rw (← c.fitted-fitted.ensures) (search rules)))
+    (past_any (λ i. refl)
+    (stop (c.in_err-check_entries-6.ensures window_good zero_window (λ x r p. p)))))))))
+
+pub returns-in_err-check_entries-7 : goal.returns-in_err-check_entries-7
+unfolding checked sections first
+returns-in_err-check_entries-7 c =
+    failed _ c.from_residual-in_err-check_entries-7.ensures.1
+    (past (c.in_ok-check_entries.ensures period_good 0 (λ x r p. p))
+    (past (c.in_ok-check_entries-2.ensures input_good zero_input (λ x r p. p))
+    (past (c.in_ok-check_entries-3.ensures (sum_good (fitted_in c.args.config.inputs)) 0 (λ x r p. rw (← c.fitted-fitted.ensures) (search rules)))
+    (past (c.in_ok-check_entries-4.ensures coefficient_good (pos 0) (λ x r p. p))
+    (past (c.in_ok-check_entries-5.ensures (slot_good (fitted_in c.args.config.inputs)) zero_slot (λ x r p. rw (← c.fitted-fitted.ensures) (search rules)))
+    (past_any (λ i. refl)
+    (past (c.in_ok-check_entries-6.ensures window_good zero_window (λ x r p. p))
+    (stop (c.in_err-check_entries-7.ensures week_good 0 (λ x r p. p))))))))))
+
+pub returns-in_err-check_entries-8 : goal.returns-in_err-check_entries-8
+unfolding checked sections first
+returns-in_err-check_entries-8 c =
+    failed _ c.from_residual-in_err-check_entries-8.ensures.1
+    (past (c.in_ok-check_entries.ensures period_good 0 (λ x r p. p))
+    (past (c.in_ok-check_entries-2.ensures input_good zero_input (λ x r p. p))
+    (past (c.in_ok-check_entries-3.ensures (sum_good (fitted_in c.args.config.inputs)) 0 (λ x r p. rw (← c.fitted-fitted.ensures) (search rules)))
+    (past (c.in_ok-check_entries-4.ensures coefficient_good (pos 0) (λ x r p. p))
+    (past (c.in_ok-check_entries-5.ensures (slot_good (fitted_in c.args.config.inputs)) zero_slot (λ x r p. rw (← c.fitted-fitted.ensures) (search rules)))
+    (past_any (λ i. refl)
+    (past (c.in_ok-check_entries-6.ensures window_good zero_window (λ x r p. p))
+    (past (c.in_ok-check_entries-7.ensures week_good 0 (λ x r p. p))
+    (stop (c.in_err-check_entries-8.ensures season_good zero_season (λ x r p. p)))))))))))
+
+pub returns-in_err-check_entries-9 : goal.returns-in_err-check_entries-9
+unfolding checked sections first
+returns-in_err-check_entries-9 c =
+    failed _ c.from_residual-in_err-check_entries-9.ensures.1
+    (past (c.in_ok-check_entries.ensures period_good 0 (λ x r p. p))
+    (past (c.in_ok-check_entries-2.ensures input_good zero_input (λ x r p. p))
+    (past (c.in_ok-check_entries-3.ensures (sum_good (fitted_in c.args.config.inputs)) 0 (λ x r p. rw (← c.fitted-fitted.ensures) (search rules)))
+    (past (c.in_ok-check_entries-4.ensures coefficient_good (pos 0) (λ x r p. p))
+    (past (c.in_ok-check_entries-5.ensures (slot_good (fitted_in c.args.config.inputs)) zero_slot (λ x r p. rw (← c.fitted-fitted.ensures) (search rules)))
+    (past_any (λ i. refl)
+    (past (c.in_ok-check_entries-6.ensures window_good zero_window (λ x r p. p))
+    (past (c.in_ok-check_entries-7.ensures week_good 0 (λ x r p. p))
+    (past (c.in_ok-check_entries-8.ensures season_good zero_season (λ x r p. p))
+    (stop (c.in_err-check_entries-9.ensures holiday_good zero_holiday (λ x r p. p))))))))))))
+
+pub returns-in_err-check_entries-10 : goal.returns-in_err-check_entries-10
+unfolding checked sections first
+returns-in_err-check_entries-10 c =
+    failed _ c.from_residual-in_err-check_entries-10.ensures.1
+    (past (c.in_ok-check_entries.ensures period_good 0 (λ x r p. p))
+    (past (c.in_ok-check_entries-2.ensures input_good zero_input (λ x r p. p))
+    (past (c.in_ok-check_entries-3.ensures (sum_good (fitted_in c.args.config.inputs)) 0 (λ x r p. rw (← c.fitted-fitted.ensures) (search rules)))
+    (past (c.in_ok-check_entries-4.ensures coefficient_good (pos 0) (λ x r p. p))
+    (past (c.in_ok-check_entries-5.ensures (slot_good (fitted_in c.args.config.inputs)) zero_slot (λ x r p. rw (← c.fitted-fitted.ensures) (search rules)))
+    (past_any (λ i. refl)
+    (past (c.in_ok-check_entries-6.ensures window_good zero_window (λ x r p. p))
+    (past (c.in_ok-check_entries-7.ensures week_good 0 (λ x r p. p))
+    (past (c.in_ok-check_entries-8.ensures season_good zero_season (λ x r p. p))
+    (past (c.in_ok-check_entries-9.ensures holiday_good zero_holiday (λ x r p. p))
+    (stop (c.in_err-check_entries-10.ensures rule_good zero_rule (λ x r p. p)))))))))))))
+
 pub returns : goal.returns
-unfolding checked first_bad sections
+unfolding checked sections first
 returns c =
-    let s10 = c.before.before.before in
-    let s9 = s10.before.before.before in
-    let s8 = s9.before.before.before in
-    let s7 = s8.before.before.before in
-    let s6 = s7.before.before.before in
-    let s5 = s6.before.before.before in
-    let s4 = s5.before.before.before in
-    let s3 = s4.before.before.before in
-    let s2 = s3.before.before.before in
-    let s1 = s2.before.before.before in
-    let fits = ap bit_at s1.fitted-fitted.ensures ∙ fitted_test _ in
-    verdict_before 5 1 1 c.periods.ensures c.section-11.ensures c.or_else.ensures
-    (verdict_before 6 7 16 s10.inputs.ensures s10.section-10.ensures s10.or_else-v-10.ensures
-    (verdict_before 118 2 8 (rw fits at s9.sums.ensures) s9.section-9.ensures s9.or_else-v-9.ensures
-    (verdict_before 134 1 32 s8.coefficients.ensures s8.section-8.ensures s8.or_else-v-8.ensures
-    (verdict_before 166 2 16 (rw fits at s7.slots.ensures) s7.section-7.ensures s7.or_else-v-7.ensures
-    (no_verdict 198 2 32 (never_broken 32 (λ i. true) (λ j. refl))
-    (verdict_before 262 4 128 s6.windows.ensures s6.section-6.ensures s6.or_else-v-6.ensures
-    (verdict_before 774 1 128 s5.weeks.ensures s5.section-5.ensures s5.or_else-v-5.ensures
-    (verdict_before 902 4 8 s4.seasons.ensures s4.section-4.ensures s4.or_else-v-4.ensures
-    (verdict_before 934 4 32 s3.holidays.ensures s3.section-3.ensures s3.or_else-v-3.ensures
-    (verdict_before 1062 2 16 s2.tariff_rules.ensures s2.section-2.ensures s2.or_else-v-2.ensures
-    (verdict_before 1094 2 16 s1.registers.ensures s1.section.ensures s1.or_else-v.ensures
-    refl)))))))))))
+    (past (c.in_ok-check_entries.ensures period_good 0 (λ x r p. p))
+    (past (c.in_ok-check_entries-2.ensures input_good zero_input (λ x r p. p))
+    (past (c.in_ok-check_entries-3.ensures (sum_good (fitted_in c.args.config.inputs)) 0 (λ x r p. rw (← c.fitted-fitted.ensures) (search rules)))
+    (past (c.in_ok-check_entries-4.ensures coefficient_good (pos 0) (λ x r p. p))
+    (past (c.in_ok-check_entries-5.ensures (slot_good (fitted_in c.args.config.inputs)) zero_slot (λ x r p. rw (← c.fitted-fitted.ensures) (search rules)))
+    (past_any (λ i. refl)
+    (past (c.in_ok-check_entries-6.ensures window_good zero_window (λ x r p. p))
+    (past (c.in_ok-check_entries-7.ensures week_good 0 (λ x r p. p))
+    (past (c.in_ok-check_entries-8.ensures season_good zero_season (λ x r p. p))
+    (past (c.in_ok-check_entries-9.ensures holiday_good zero_holiday (λ x r p. p))
+    (past (c.in_ok-check_entries-10.ensures rule_good zero_rule (λ x r p. p))
+    (last (c.check_entries-11.ensures register_good zero_register (λ x r p. p)))))))))))))).is

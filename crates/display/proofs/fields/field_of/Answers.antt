@@ -13,12 +13,12 @@ use Rattle.display.proofs.fields.field_of.Goals as goal
 pub returns-in_default : goal.returns-in_default
 returns-in_default c =
     let a = c.args in
-    field_refused a.recorder a.group a.register c.read_register-answer.result _ c.read_register-answer.ensures a.field c.in_default.not-Given
+    field_refused a.recorder a.group a.register c.read_register-answer.result _ c.read_register-answer.ensures a.field c.in_default.not-Ok
 
 pub returns-then-k-ge6 : goal.returns-then-k-ge6
 returns-then-k-ge6 c =
     let a = c.args in
-    field_none a.recorder a.group a.register _ _ c.read_register-answer.ensures a.field _ c.in-Given.is (no_seventh a.group a.field c.if-k-ge6.true)
+    field_none a.recorder a.group a.register _ _ c.read_register-answer.ensures a.field _ c.in-Ok.is (no_seventh a.group a.field c.if-k-ge6.true)
 
 -- how many bytes the field has
 size : (bytes : List ℕ) (group field : ℕ) → bytes ≡ table 6 (λ k. widths group k) → field < 6 → get_or bytes field 0 ≡ widths group field
@@ -32,7 +32,7 @@ pub returns-then-n-eq0 : goal.returns-then-n-eq0
 returns-then-n-eq0 c =
     let a = c.args in
     let s = size _ a.group a.field c.field_bytes-bytes.ensures c.if-k-ge6.false in
-    field_none a.recorder a.group a.register _ _ c.read_register-answer.ensures a.field _ c.in-Given.is (sym s ∙ c.if-n-eq0.true)
+    field_none a.recorder a.group a.register _ _ c.read_register-answer.ensures a.field _ c.in-Ok.is (sym s ∙ c.if-n-eq0.true)
 
 pub number_in-number-requires : goal.number_in-number-requires
 number_in-number-requires c =
@@ -40,7 +40,7 @@ number_in-number-requires c =
     let low = c.if-k-ge6.false in
     let s = size c.field_bytes-bytes.result a.group a.field c.field_bytes-bytes.ensures low in
     let b = start c.field_bytes-bytes.result a.group a.field c.start_of.result c.field_bytes-bytes.ensures low c.start_of.ensures in
-    rw (b, s) (field_fits a.recorder a.group a.register _ _ c.read_register-answer.ensures a.field _ c.in-Given.is low, field_few a.group a.field)
+    rw (b, s) (field_fits a.recorder a.group a.register _ _ c.read_register-answer.ensures a.field _ c.in-Ok.is low, field_few a.group a.field)
 
 pub value_of-requires : goal.value_of-requires
 value_of-requires c =
@@ -56,4 +56,4 @@ returns c =
     let s = size c.field_bytes-bytes.result a.group a.field c.field_bytes-bytes.ensures low in
     let b = start c.field_bytes-bytes.result a.group a.field c.start_of.result c.field_bytes-bytes.ensures low c.start_of.ensures in
     rw (c.value_of.ensures, c.is_signed.ensures, c.number_in-number.ensures.0, b, s)
-    (field_some a.recorder a.group a.register _ _ c.read_register-answer.ensures a.field _ c.in-Given.is low (λ z. c.if-n-eq0.false (s ∙ z)))
+    (field_some a.recorder a.group a.register _ _ c.read_register-answer.ensures a.field _ c.in-Ok.is low (λ z. c.if-n-eq0.false (s ∙ z)))

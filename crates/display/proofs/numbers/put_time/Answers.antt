@@ -2,9 +2,9 @@
 use Rattle.display.specs.Steps.{puts_of}
 use Rattle.display.proofs.numbers.put_time.Goals as goal
 
-pub returns-in-On : goal.returns-in-On
-returns-in-On c = rw (c.put_clock.ensures, ← c.moment_of.ensures, c.in-On.is)
+pub returns-in-Some : goal.returns-in-Some
+returns-in-Some c = rw (c.put_clock.ensures, ← c.moment_of.ensures, c.in-Some.is)
 
-pub returns-in-NoDate : goal.returns-in-NoDate
+pub returns-in-None : goal.returns-in-None
 unfolding puts_of
-returns-in-NoDate c = rw (← c.moment_of.ensures, c.in-NoDate.is)
+returns-in-None c = rw (← c.moment_of.ensures, c.in-None.is)

@@ -1,16 +1,18 @@
--- `image::read::config` meets its contract: each section is read by its function.
+-- `image::read::config` meets its contract: each section is read from its offset on.
 use Rattle.image.specs.Image.{decode}
+use Rattle.image.proofs.Sections.{rest_of}
 use Rattle.image.proofs.read.config.Goals as goal
 
 pub returns : goal.returns
 unfolding decode
 returns c =
     rw (
-      c.inputs.ensures,
-      c.sums.ensures,
-      c.coefficients.ensures,
-      c.slots.ensures,
-      c.limits.ensures,
+      c.section.ensures,
+      c.section-2.ensures,
+      c.section-3.ensures,
+      c.section-4.ensures,
+      c.section-5.ensures,
       c.program.ensures,
-      c.registers.ensures,
+      c.section-6.ensures,
     )
+    (simp rest_of)

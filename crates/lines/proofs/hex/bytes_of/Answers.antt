@@ -1,56 +1,42 @@
--- `lines::hex::bytes_of` meets its contract. The invariant: the first k bytes stand in front of zeros.
-use mathlib.Core.Path.{◌≡◌, refl, sym, ◌∙◌}
-use mathlib.Core.List.{List, ◌++◌}
-use Prim.Native.Nat.{ℕ, ◌+◌, ◌-◌, ◌*◌, ◌≤◌}
-use native.Mathlib.Omega.{arith}
-use lib.ListN.{length, get_or, take, replicate}
-use lib.Seq.{take_all, length-take-le}
-use Rattle.laws.proofs.Stores.{one_padded}
-use Rattle.lines.specs.Hex.{hex_values, bytes_of_hex, as_bytes}
-use Rattle.lines.proofs.Pairs.{values_length, value_at_lem}
+-- `lines::hex::bytes_of` meets its contract: each turn stores the byte of a pair.
+use Rattle.std.proofs.Common.{◌≡◌, ℕ, ◌+◌, ◌*◌, ◌/◌, ◌<◌, min, true, false, length, refl, sym, ◌∙◌, arith, lit<, length-take}
+use Rattle.laws.specs.Tables.{table}
+use Rattle.laws.proofs.Tables.{length_table}
+use Rattle.lines.specs.Hex.{is_hex, hex_byte, hex_values, bytes_of_hex}
+use Rattle.lines.proofs.Pairs.{letter_of, table_more, table_taken}
 use Rattle.lines.proofs.hex.bytes_of.Goals as goal
 
--- all bytes are stored, or as many as fit
-stored_all : (l : List ℕ) (k : ℕ) → k ≤ 128 → length l ≡ k → record { bytes = take k l ++ replicate (128 - k) 0; count = k } ≡ as_bytes l
-stored_all l k h e = rw (take_all 128 l (omega arith), take_all k l (omega arith), e)
+pub loop-high-init : goal.loop-high-init
+unfolding table
+loop-high-init c = c.new-bytes.ensures
 
-stored_most : (l : List ℕ) → 128 ≤ length l → record { bytes = take 128 l ++ replicate (128 - 128) 0; count = 128 } ≡ as_bytes l
-stored_most l h = let none : 128 - length l ≡ 0 = omega arith in rw (none, length-take-le 128 l h)
+pub push-requires : goal.push-requires
+push-requires c =
+    let n = length_table c.loop-high.high-index (hex_byte c.args.w.now) in
+    let room : length c.loop-high.bytes.items < 128 = rw (c.loop-high.invariant, n) (omega (arith, length-take c.min.result c.as_chunks.result.0.now)) in
+    (lit< tt, room)
 
-pub returns-then-not-is_hex : goal.returns-then-not-is_hex
-unfolding bytes_of_hex
-returns-then-not-is_hex c = rw (sym c.is_hex.ensures ∙ c.if-not-is_hex.true)
-
-pub returns-then-w-k : goal.returns-then-w-k
-unfolding bytes_of_hex
-returns-then-w-k c =
-    let l = c in
-    let hex = sym l.is_hex.ensures ∙ l.if-not-is_hex.false in
-    let size = values_length l.args.w.now in
-    rw (hex, l.loop-k.invariant.2) (stored_all _ l.loop-k.k l.loop-k.invariant.0 (omega arith))
-
-pub loop-k-preserved : goal.loop-k-preserved
-loop-k-preserved c =
-    let low = c.before in
-    let high = low.before.before in
-    let i = high.before.before in
-    let l = i in
-    let w = l.args.w.now in
-    let size = values_length w in
-    let byte : high.digit_of-high.result.value * 16 + low.digit_of-low.result.value ≡ get_or (hex_values w) l.loop-k.k 0
-    = rw (high.digit_of-high.ensures.0, low.digit_of-low.ensures.0) (sym (value_at_lem w _ (omega arith)))
+pub loop-high-preserved : goal.loop-high-preserved
+loop-high-preserved c =
+    let w = c.args.w.now in
+    let k = c.loop-high.high-index in
+    let pairs = c.as_chunks.ensures.front in
+    let within : k < min (length w / 2) 128 = omega (arith, length-take c.min.result c.as_chunks.result.0.now) in
+    let letter = λ (i j : ℕ) (h : i < 2) (e : 2 * k + i ≡ j). letter_of (length w / 2) c.min.result k i j w (omega arith) (omega arith) h e in
+    let byte : c.value_of.result * 16 + c.value_of-in-loop-high.result ≡ hex_byte w k
+    = rw (c.value_of.ensures.value, c.value_of-in-loop-high.ensures.value, pairs, letter 0 (2 * k) (lit< tt) (omega arith), letter 1 (2 * k + 1) (lit< tt) refl)
     in
-    (omega arith, omega arith, rw (l.loop-k.invariant.2, byte) (one_padded (hex_values w) 128 0 l.loop-k.k (omega arith) (omega arith)))
+    c.push.ensures.items ∙ table_more (hex_byte w) k _ _ c.loop-high.invariant byte
 
-pub returns : goal.returns
+pub returns-after-loop-high : goal.returns-after-loop-high
+unfolding bytes_of_hex hex_values
+returns-after-loop-high c =
+    let hex : is_hex c.args.w.now ≡ true = sym c.is_hex.ensures ∙ c.if-is_hex.true in
+    let all : c.loop-high.high-index ≡ min (length c.args.w.now / 2) 128 = omega (arith, length-take c.min.result c.as_chunks.result.0.now) in
+    rw (hex, table_taken, ← all) c.loop-high.invariant
+
+pub returns-else-is_hex : goal.returns-else-is_hex
 unfolding bytes_of_hex
-returns c =
-    let l = c in
-    let hex = sym l.is_hex.ensures ∙ l.if-not-is_hex.false in
-    let all : l.loop-k.k ≡ 128 = omega arith in
-    let w = l.args.w.now in
-    let size = values_length w in
-    rw (hex, l.loop-k.invariant.2, all) (stored_most (hex_values w) (omega arith))
-
-pub loop-k-init : goal.loop-k-init
-loop-k-init c = (omega arith, omega arith, refl)
+returns-else-is_hex c =
+    let none : is_hex c.args.w.now ≡ false = sym c.is_hex.ensures ∙ c.if-is_hex.false in
+    rw none c.new-bytes.ensures

@@ -1,13 +1,8 @@
--- `lines::hex::bytes_of` meets its contract. The invariant: the first k bytes stand in front of zeros.
-use mathlib.Core.Path.{◌≡◌}
-use mathlib.Core.List.{◌++◌}
-use Prim.Native.Nat.{◌-◌, ◌/◌, ◌≤◌}
-use lib.ListN.{length, take, replicate}
-use Rattle.lines.specs.Hex.{hex_values}
+-- `lines::hex::bytes_of` meets its contract. The loop's invariant: a byte is stored for each pair before.
+use Rattle.std.proofs.Common.{◌≡◌}
+use Rattle.laws.specs.Tables.{table}
+use Rattle.lines.specs.Hex.{hex_byte}
 use Rattle.lines.proofs.hex.bytes_of.Given as goal
 
-abbrev pub invariant-loop-k : goal.invariant-loop-k
-invariant-loop-k l = (l.k ≤ 128) × (l.k ≤ length l.w / 2) × (l.bytes ≡ take l.k (hex_values l.w) ++ replicate (128 - l.k) 0)
-
-abbrev pub decreases-loop-k : goal.decreases-loop-k
-decreases-loop-k l = 128 - l.k
+abbrev pub invariant-loop-high : goal.invariant-loop-high
+invariant-loop-high l = l.bytes.items ≡ table l.high-index (hex_byte l.w)

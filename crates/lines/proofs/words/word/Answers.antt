@@ -1,21 +1,19 @@
--- `lines::words::word` meets its contract: the word is the first of the text from its place on.
-use mathlib.Core.Path.{◌≡◌, sym, ◌∙◌}
-use Prim.Native.Nat.{◌-◌}
-use native.Mathlib.Omega.{arith}
-use lib.ListN.{drop}
-use Rattle.lines.specs.Words.{blank_at}
-use Rattle.lines.proofs.Splits.{first_word, word_there, word_missing}
+-- `lines::words::word` meets its contract: by the words that `split` gives.
+use Rattle.std.proofs.Common.{◌≡◌, ℕ, List, [], rules, tests, refl, Option, Some, None, Bor, option_map, unwrap_or, slice_get}
+use Rattle.std.proofs.lemmas.Iterator.Consumers.{nth_from_yields_List}
+use Rattle.std.proofs.lemmas.Iterator.Splits.{YieldsList-from_slice_split}
+use Rattle.std.proofs.lemmas.Option.{unwrap_or-slice_get}
+use Rattle.lines.specs.Words.{words}
 use Rattle.lines.proofs.words.word.Goals as goal
 
-pub returns-then-text-start : goal.returns-then-text-start
-returns-then-text-start c =
-    let start = c.word_start-start.ensures in
-    sym (word_missing _ _ (rw (← start) c.if-text-start.true))
+-- what a reference holds that was found, or the other one
+now_of : (r : Option (Bor (List ℕ))) (d : Bor (List ℕ)) → (unwrap_or r d).now ≡ unwrap_or (option_map (λ x. x.now) r) d.now
+now_of None d = refl
+now_of (Some x) d = refl
 
 pub returns : goal.returns
 returns c =
-    let k = c.before in
-    let start = k.word_start-start in
-    let text = k.args.text.now in
-    let size : k.word_end-end.result - start.result ≡ blank_at (drop start.result text) = omega (arith, k.word_end-end.ensures.0) in
-    rw (size, start.ensures) (sym (word_there _ text (rw (← start.ensures) k.if-text-start.false) ∙ first_word _))
+    let found : option_map (λ x. x.now) c.nth.result ≡ slice_get (words c.args.text.now) c.args.k
+    = nth_from_yields_List _ _ c.args.k c.nth.ensures.ran (YieldsList-from_slice_split _ _ c.args.text.now c.split.ensures.rest c.split.ensures.done c.split.ensures.closure (λ x b q k. search (rules, tests)))
+    in
+    rw (c.unwrap_or.ensures, now_of, found) (unwrap_or-slice_get (words c.args.text.now) c.args.k [])

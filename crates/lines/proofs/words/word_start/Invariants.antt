@@ -1,12 +1,9 @@
--- `lines::words::word_start` meets its contract. The invariant: the word starts where the one with the number that is left does, of the text from here on.
-use mathlib.Core.Path.{◌≡◌}
-use Prim.Native.Nat.{◌+◌, ◌≤◌, ◌-◌}
-use lib.ListN.{length, drop}
+-- `lines::words::word_start` meets its contract. The loop's invariant: as many words are passed as turns were made.
+use Rattle.std.proofs.Common.{◌≡◌, ◌+◌, ◌-◌, ◌≤◌, length, drop}
+use Rattle.std.specs.Prelude.{option_map}
 use Rattle.lines.specs.Words.{word_place}
 use Rattle.lines.proofs.words.word_start.Given as goal
 
-abbrev pub invariant-loop-left : goal.invariant-loop-left
-invariant-loop-left l = (l.i ≤ length l.text) × (word_place l.k l.text ≡ l.i + word_place l.left (drop l.i l.text))
-
-abbrev pub decreases-loop-left : goal.decreases-loop-left
-decreases-loop-left l = length l.text - l.i
+abbrev pub invariant-loop : goal.invariant-loop
+invariant-loop l =
+    (l.counter ≤ l.k) × (l.start ≤ length l.text) × (word_place l.k l.text ≡ option_map (λ n. l.start + n) (word_place (l.k - l.counter) (drop l.start l.text)))

@@ -1,52 +1,35 @@
--- `profile::Profile::read` meets its contract: each return knows the tests that led there, and a record that is held stands within the buffer.
+-- `profile::Profile::read` meets its contract: a record that is held stands within the buffer, and its bytes are copied.
+use Rattle.std.specs.Prelude.{Ok}
 use mathlib.Core.Path.{◌≡◌, sym, ◌∙◌}
-use mathlib.Core.Bool.{true}
-use Prim.Native.Nat.{◌+◌, ◌*◌, ◌≤◌, ◌<◌}
+use mathlib.Core.Bool.{Bool, true}
+use mathlib.Core.List.{List, ◌++◌}
+use Prim.Native.Nat.{ℕ, ◌+◌, ◌-◌, ◌*◌, ◌≤◌, ◌<◌}
 use native.Mathlib.Omega.{arith}
-use lib.ListN.{length}
-use Rattle.profile.specs.Room.{as_at_start, room_of}
-use Rattle.profile.specs.Reading.{place_at}
-use Rattle.profile.proofs.Places.{index_fits, place_fits}
-use Rattle.profile.proofs.Replies.{reply_14, reply_15, reply_13, reply_read}
+use borrow.Author.Tests.{le-ltb, lt-leb}
+use lib.ListN.{length, take, drop, length-take, length-drop}
+use Rattle.profile.specs.Room.{as_at_start}
+use Rattle.profile.specs.Reading.{held_in, place_at, record_replied, record_reply}
+use Rattle.profile.specs.declared.Profile.{Profile}
+use Rattle.profile.proofs.Places.{held_bytes}
 use Rattle.profile.proofs.Profile.read.Goals as goal
 
-pub returns-then-not-as_at_start : goal.returns-then-not-as_at_start
-returns-then-not-as_at_start c = reply_14 _ _ _ c.as_at_start.ensures _ _ c.if-not-as_at_start.true
-
-pub returns-then-count-i : goal.returns-then-count-i
-returns-then-count-i c = reply_15 _ _ _ c.as_at_start.ensures _ _ _ c.if-not-as_at_start.false c.count.ensures c.if-count-i.true
-
-pub returns-then-res-lt-RECORD_LENGTH : goal.returns-then-res-lt-RECORD_LENGTH
-returns-then-res-lt-RECORD_LENGTH c =
-    reply_13 _ _ _ c.as_at_start.ensures _ _ _ c.if-not-as_at_start.false c.count.ensures c.if-count-i.false
-    c.if-res-lt-RECORD_LENGTH.true
-
--- the index is within the room
-in_room : (c : goal.After-copy_record-arg-1)
-    → c.args.index < room_of c.args.self
-in_room c = omega (arith, c.count.ensures, c.if-count-i.false)
-
-pub place_at-requires : goal.place_at-requires
-place_at-requires c = in_room c
-
--- the record's place is within the buffer
-fits : (c : goal.After-place_at) → 69 * c.place_at.result + 69 ≤ length c.args.buffer.now
-fits c =
+pub copy_from_slice-requires : goal.copy_from_slice-requires
+copy_from_slice-requires c =
     let a = c.args in
-    let n = length a.buffer.now in
-    let inside : a.index < room_of a.self = omega (arith, c.count.ensures, c.if-count-i.false) in
-    let right : as_at_start a.self n ≡ true = sym c.as_at_start.ensures ∙ c.if-not-as_at_start.false in
-    rw c.place_at.ensures (place_fits a.self n (place_at a.self a.index) right (index_fits a.self n a.index right inside))
+    let f = held_bytes a.self (length a.buffer.now) c.as_at_start.ensures c.if-not-as_at_start.false a.index c.count.ensures c.if-count-i.false c.place_at-at.ensures in
+    rw (length-take, length-take, length-drop) (omega arith)
 
-pub overflow_mul-place_at : goal.overflow_mul-place_at
-overflow_mul-place_at c = record { fits = omega (arith, fits c) }
-
-pub copy_record-requires : goal.copy_record-requires
-copy_record-requires c = (fits c, c.if-res-lt-RECORD_LENGTH.false)
+-- the record that is read
+given_record : (p : Profile) (index : ℕ) (buffer result new : List ℕ) {held place : ℕ} {right : Bool} → right ≡ as_at_start p (length buffer) → right ≡ true
+    → held ≡ held_in p → index < held → 69 ≤ length result → place ≡ place_at p index → new ≡ take (69 * place + 69 - 69 * place) (drop (69 * place) buffer)
+    → record_replied (Ok tt) (new ++ drop 69 result) ≡ record_reply p index buffer result
+unfolding record_reply
+given_record p index buffer result new {held} {place} is e count h enough at copied =
+    let size : 69 * place + 69 - 69 * place ≡ 69 = omega arith in
+    rw (sym is ∙ e, lt-leb (held_in p) index (rw (← count) h), le-ltb (length result) 69 enough, copied, size, at)
 
 pub returns : goal.returns
 returns c =
-    let place = c.before.before.before in
-    reply_read _ _ _ place.as_at_start.ensures _ _ _ place.if-not-as_at_start.false
-    place.count.ensures _ _ place.if-count-i.false place.if-res-lt-RECORD_LENGTH.false place.place_at.ensures
-    c.copy_record.ensures
+    let a = c.args in
+    given_record a.self a.index a.buffer.now a.res.now _ c.as_at_start.ensures c.if-not-as_at_start.false c.count.ensures c.if-count-i.false c.if-res-lt-RECORD_LENGTH.false c.place_at-at.ensures
+    c.copy_from_slice.ensures.after

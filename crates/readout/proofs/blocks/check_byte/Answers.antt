@@ -1,14 +1,17 @@
--- `readout::blocks::check_byte` meets its contract. The invariant: the exclusive or of all is that of what is made so far and the bytes from here on.
-use mathlib.Core.Path.{refl, sym, ◌∙◌}
-use native.Mathlib.Omega.{arith}
-use Rattle.readout.proofs.Turns.{xor_turn, xor_end}
+-- `readout::blocks::check_byte` meets its contract: its definition is a fold.
+use mathlib.Core.Path.{◌≡◌, refl}
+use mathlib.Core.List.{List, [], ◌∷◌}
+use Prim.Native.Nat.{ℕ}
+use borrow.Author.Rules.{rules}
+use lib.Bits.{bit_xor}
+use Rattle.std.specs.List.{fold}
+use Rattle.readout.specs.Blocks.{xor_from}
 use Rattle.readout.proofs.blocks.check_byte.Goals as goal
 
-pub loop-i-preserved : goal.loop-i-preserved
-loop-i-preserved c = let l = c.loop-i in (omega arith, l.invariant.1 ∙ xor_turn _ l.i l.check (omega arith))
+folded : (n : ℕ) (l : List ℕ) → fold bit_xor n l ≡ xor_from n l
+unfolding xor_from
+folded n [] = refl
+folded n (b ∷ rest) = folded (bit_xor n b) rest
 
 pub returns : goal.returns
-returns c = let l = c.loop-i in sym (l.invariant.1 ∙ xor_end _ l.i l.check (omega arith))
-
-pub loop-i-init : goal.loop-i-init
-loop-i-init c = (omega arith, refl)
+returns c = rw (← folded) (search rules)

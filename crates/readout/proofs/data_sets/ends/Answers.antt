@@ -1,38 +1,42 @@
--- `readout::data_sets::ends` meets its contract: by its tests.
-use mathlib.Core.Path.{sym, ◌∙◌}
-use Rattle.readout.proofs.Places.{ends_closed, ends_other, ends_past, ends_starred}
+-- `readout::data_sets::ends` meets its contract: by the letters at both ends.
+use Rattle.std.proofs.Common.{rules, tests}
+use Rattle.std.proofs.lemmas.Iterator.{YieldsList-from_slice}
+use Rattle.std.proofs.lemmas.Iterator.Search.{all_from_yields_List}
+use mathlib.Core.Path.{◌≡◌, sym, ◌∙◌}
+use Prim.Native.Nat.{◌-◌}
+use native.Mathlib.Omega.{arith}
+use Rattle.std.specs.List.{list_all}
+use lib.ListN.{length, take, drop}
+use Rattle.readout.specs.DataSets.{between, value_letter}
+use Rattle.readout.proofs.Places.{ends_closed, ends_starred, ends_other}
 use Rattle.readout.proofs.data_sets.ends.Goals as goal
 
-pub returns-then-closes : goal.returns-then-closes
-returns-then-closes c = let a = c.args in sym (ends_closed a.line.now a.at (sym c.closes.ensures ∙ c.if-closes.true))
+pub returns-in-41 : goal.returns-in-41
+returns-in-41 c = sym (ends_closed c.args.rest.now (omega arith) (omega arith))
 
-pub returns-then-line-at : goal.returns-then-line-at
-returns-then-line-at c =
-    let i = c in
-    let a = i.args in
-    sym (ends_past a.line.now a.at (sym i.closes.ensures ∙ i.if-closes.false) c.if-line-at.true)
+pub returns-then-contains : goal.returns-then-contains
+returns-then-contains c =
+    let rest = c.args.rest.now in
+    let unit = take (length rest - 1 - 1) (drop 1 rest) in
+    let size : c.contains.result ≡ between 1 16 (length unit) = search rules in
+    let letters : c.all.result ≡ list_all value_letter unit =
+    all_from_yields_List value_letter _ _ c.all.result c.all.ensures.ran (YieldsList-from_slice _ c.iter.ensures.rest) (λ x b q k. search (rules, tests)) in
+    letters ∙ sym (ends_starred rest c.in-42.len_at_least (omega arith) (omega arith) ∙ rw (sym size ∙ c.if-contains.true))
 
-pub returns-then-line-at-ne42 : goal.returns-then-line-at-ne42
-returns-then-line-at-ne42 c =
-    let i = c in
-    let a = i.args in
-    sym (ends_other a.line.now a.at (sym i.closes.ensures ∙ i.if-closes.false) c.if-line-at-ne42.true)
+pub returns-else-contains : goal.returns-else-contains
+returns-else-contains c =
+    let rest = c.args.rest.now in
+    let size : c.contains.result ≡ between 1 16 (length (take (length rest - 1 - 1) (drop 1 rest))) = search rules in
+    c.if-contains.false ∙ sym (ends_starred rest c.in-42.len_at_least (omega arith) (omega arith) ∙ rw (sym size ∙ c.if-contains.false))
 
-pub returns-then-not-between : goal.returns-then-not-between
-returns-then-not-between c =
-    let p = c.before.before in
-    let s = p.before in
-    let i = s in
-    let a = i.args in
-    let e = ends_starred a.line.now a.at p.part_end-end.result (sym i.closes.ensures ∙ i.if-closes.false) s.if-line-at-ne42.false p.part_end-end.ensures.0 in
-    sym (e ∙ rw (sym c.between.ensures ∙ c.if-not-between.true))
+pub returns-in_default : goal.returns-in_default
+returns-in_default c = sym (ends_other _ (λ e. omega arith) (λ e. omega arith))
 
-pub returns : goal.returns
-returns c =
-    let r = c.before in
-    let p = r.before in
-    let s = p.before in
-    let i = s in
-    let a = i.args in
-    let e = ends_starred a.line.now a.at p.part_end-end.result (sym i.closes.ensures ∙ i.if-closes.false) s.if-line-at-ne42.false p.part_end-end.ensures.0 in
-    c.closes-2.ensures ∙ sym (e ∙ rw (sym r.between.ensures ∙ c.if-not-between.false))
+pub returns-in_default-2 : goal.returns-in_default-2
+returns-in_default-2 c = sym (ends_other _ (λ e. omega arith) (λ e. omega arith))
+
+pub returns-in_default-3 : goal.returns-in_default-3
+returns-in_default-3 c = sym (ends_other _ (λ e. omega arith) (λ e. omega arith))
+
+pub returns-in_default-4 : goal.returns-in_default-4
+returns-in_default-4 c = sym (ends_other _ (λ e. omega arith) (λ e. omega arith))

@@ -25,6 +25,8 @@ use Rattle.laws.proofs.SignedTotal.{abs_fits, totalℤ-none, totalℤ-turn, tota
 use Rattle.sampling.specs.declared.Meter.{Meter}
 use Rattle.recorder.specs.Meters.{meter_at}
 use Rattle.registers.specs.Fleet.{meter_class, class_at, has_class, has_any, awake_value, awake_sum, fleet_of}
+use Rattle.recorder.specs.declared.meters.Age.TheVariants.{Awake, Stale, Invalid, Never}
+use Rattle.registers.proofs.Classes.{class_is}
 use Rattle.registers.proofs.fleet.fleet_of.Invariants.{classes}
 use Rattle.registers.proofs.fleet.fleet_of.Goals as goal
 
@@ -51,7 +53,7 @@ loop-i-preserved c =
     let back : to_z w64 (of_z w64 r.result) ≡ r.result = to_z-of_z {w = w64} (abs_fits r.result (omega arith)) in
     let v = (meter_at meters l.i).value in
     let value : to_z w32 (of_z w32 v) ≡ v = to_z-of_z {w = w32} {z = v} (search rules) in
-    (omega arith, mask_more _ _ (omega arith) l.invariant.1 c.with_bit-awake.ensures (ap (λ k. eqb k 0) there), mask_more _ _ (omega arith) l.invariant.2 c.with_bit-stale.ensures (ap (λ k. eqb k 1) there), mask_more _ _ (omega arith) l.invariant.3 c.with_bit-invalid.ensures (ap (λ k. eqb k 2) there), mask_more _ _ (omega arith) l.invariant.4 c.with_bit-never.ensures (ap (λ k. eqb k 3) there), rw back (totalℤ-turn _ _ l.invariant.5 (r.ensures.0 ∙ rw (value, there))), rw back near)
+    (omega arith, mask_more _ _ (omega arith) l.invariant.1 c.with_bit-awake.ensures (c.eq.ensures ∙ class_is _ Awake ∙ ap (λ k. eqb k 0) there), mask_more _ _ (omega arith) l.invariant.2 c.with_bit-stale.ensures (c.eq-in-loop-i.ensures ∙ class_is _ Stale ∙ ap (λ k. eqb k 1) there), mask_more _ _ (omega arith) l.invariant.3 c.with_bit-invalid.ensures (c.eq-in-loop-i-2.ensures ∙ class_is _ Invalid ∙ ap (λ k. eqb k 2) there), mask_more _ _ (omega arith) l.invariant.4 c.with_bit-never.ensures (c.eq-in-loop-i-3.ensures ∙ class_is _ Never ∙ ap (λ k. eqb k 3) there), rw back (totalℤ-turn _ _ l.invariant.5 (r.ensures.0 ∙ rw (value, c.eq-in-loop-i-4.ensures, class_is c.meter_class-class.result Awake, there))), rw back near)
 
 -- the four classes of a fitted meter
 any_of : (x : ℕ) → (((eqb x 0 || eqb x 1) || eqb x 2) || eqb x 3) ≡ ltb x 4

@@ -1,6 +1,5 @@
 -- `sampling::samples::take` meets its contract. The loop's invariant: what is left to take from the state put together of its parts, counted on from k, is the whole run.
 use mathlib.Core.Path.{◌≡◌, refl, sym, ap, ◌∙◌}
-use mathlib.Core.Bool.{true≢false}
 use mathlib.Core.List.{List}
 use Prim.Native.Nat.{ℕ, ◌+◌, ◌<◌, ◌≤◌}
 use native.Mathlib.Omega.{arith}
@@ -48,7 +47,7 @@ pub loop-k-init : goal.loop-k-init
 loop-k-init c =
     let a = c.args in
     let amounts = own_amounts a.start.bills (search (rules, length_mapped)) in
-    (search rules, rw (c.amounts_of-amounts.ensures, amounts, zero-add), c.running_lines-running.ensures, search (rules, length_mapped), search (rules, length_mapped), search rules, λ e. absurd (true≢false (sym e)), refl, refl)
+    (search rules, rw (c.amounts_of-amounts.ensures, amounts, zero-add), c.running_lines-running.ensures, search (rules, length_mapped), search (rules, length_mapped), search rules, tt, refl, refl)
 
 -- where samples only count, the second is not full
 still : (c : goal.Then-idle-gt0) → c.loop-k.count + c.idle_samples-idle.result ≤ 99
@@ -98,8 +97,8 @@ advanced : (lines : List Line) (active left : ℕ) (now : List Line)
 unfolding advanced_lines
 advanced lines active left now z h = half_done _ _ _ z h
 
-pub tariffs_at-tariffs-requires : goal.tariffs_at-tariffs-requires
-tariffs_at-tariffs-requires c = c.loop-k.invariant.6
+pub fed_by-fed-requires : goal.fed_by-fed-requires
+fed_by-fed-requires c = c.loop-k.invariant.6
 
 pub book-requires : goal.book-requires
 book-requires c = (c.loop-k.invariant.4, record { others = λ i l e. rw (brings c.args.config.inputs c.loop-k.lines _ _ _ (omega arith) c.loop-left.invariant.3) (others_none _ _ _ i l e); none = c.loop-left.invariant.5 })
@@ -124,10 +123,10 @@ joined c =
       | then-ending-gt0+else-loop-left-test+else-book w ↦
           rw w.tariffs-is
           (ended a.config l.clock l.lines a.start.bills l.amounts m l.running (ends_now l.running m) i.2 refl
-          c.if-ending-gt0.lines c.if-ending-gt0.amounts w.loop-left.units w.tariffs_at-tariffs.result
+          c.if-ending-gt0.lines c.if-ending-gt0.amounts w.loop-left.units w.fed_by-fed.result
           (w.lines-is ∙ settles a.config.inputs l.lines _ _ _ (omega (arith, w.loop-left-test.false)) w.loop-left.invariant.2)
           (brings a.config.inputs l.lines _ _ _ (omega (arith, w.loop-left-test.false)) w.loop-left.invariant.3)
-          w.tariffs_at-tariffs.ensures (sym w.book.ensures.full ∙ w.if-book.false) (w.amounts-is ∙ w.book.ensures.amounts))
+          w.fed_by-fed.ensures (sym w.book.ensures.full ∙ w.if-book.false) (w.amounts-is ∙ w.book.ensures.amounts))
       | else-ending-gt0 w ↦
           unended a.config l.clock l.lines a.start.bills l.amounts m l.running (ends_now l.running m) i.2 refl
           c.if-ending-gt0.lines c.if-ending-gt0.amounts c.if-ending-gt0.tariffs l.tariffs (omega (arith, w.if-ending-gt0.false)) i.3 i.4 i.6 w.lines-is w.amounts-is w.tariffs-is
@@ -196,7 +195,7 @@ returns c =
       | then-loop-k-test+else-clock-count+then-ending-gt0+else-loop-left-test+then-book w ↦
           let some = sym w.book.ensures.full ∙ w.if-book.true in
           let z : w.loop-left.left ≡ 0 = omega (arith, w.loop-left-test.false) in
-          let full = full_booking a.config l.clock l.lines a.start.bills l.amounts m l.running ends i.2 refl w.loop-left.units w.tariffs_at-tariffs.result.fed (brings a.config.inputs l.lines _ _ _ z w.loop-left.invariant.3) w.tariffs_at-tariffs.ensures ∙ some in
+          let full = full_booking a.config l.clock l.lines a.start.bills l.amounts m l.running ends i.2 refl w.loop-left.units w.fed_by-fed.result (brings a.config.inputs l.lines _ _ _ z w.loop-left.invariant.3) w.fed_by-fed.ensures ∙ some in
           let refuses = sample_full a.config a.start l.clock l.count l.lines (with_amounts a.start.bills l.amounts) word m active w.if-clock-count.false full in
           let lines : c.loop-k-test.lines ≡ l.lines = w.lines-is ∙ w.restored-lines.ensures ∙ put_back l.lines w.loop-left.lines w.loop-left.old _ blank ends i.3 (half_done _ _ _ z w.loop-left.invariant.2) (half_done _ _ _ z w.loop-left.invariant.4) in
           let amounts : c.loop-k-test.amounts ≡ l.amounts = w.amounts-is ∙ w.book.ensures.amounts ∙ kept_amounts _ _ _ _ some in
@@ -209,10 +208,10 @@ returns c =
             | then-ending-gt0+else-loop-left-test+else-book v ↦
                 rw v.tariffs-is
                 (ended a.config l.clock l.lines a.start.bills l.amounts m l.running ends i.2 refl
-                t.lines t.amounts v.loop-left.units v.tariffs_at-tariffs.result
+                t.lines t.amounts v.loop-left.units v.fed_by-fed.result
                 (v.lines-is ∙ settles a.config.inputs l.lines _ _ _ (omega (arith, v.loop-left-test.false)) v.loop-left.invariant.2)
                 (brings a.config.inputs l.lines _ _ _ (omega (arith, v.loop-left-test.false)) v.loop-left.invariant.3)
-                v.tariffs_at-tariffs.ensures (sym v.book.ensures.full ∙ v.if-book.false) (v.amounts-is ∙ v.book.ensures.amounts))
+                v.fed_by-fed.ensures (sym v.book.ensures.full ∙ v.if-book.false) (v.amounts-is ∙ v.book.ensures.amounts))
             | else-ending-gt0 v ↦
                 unended a.config l.clock l.lines a.start.bills l.amounts m l.running ends i.2 refl
                 t.lines t.amounts t.tariffs l.tariffs (omega (arith, v.if-ending-gt0.false)) i.3 i.4 i.6 v.lines-is v.amounts-is v.tariffs-is

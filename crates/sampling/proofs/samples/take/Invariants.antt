@@ -1,4 +1,5 @@
 -- `sampling::samples::take` meets its contract. The loop's invariant: what is left to take from the state put together of its parts, counted on from k, is the whole run.
+use Rattle.std.specs.Prelude.{Ok}
 use mathlib.Core.Path.{◌≡◌}
 use mathlib.Core.Bool.{true, false}
 use mathlib.Core.List.{List}
@@ -12,7 +13,6 @@ use Rattle.counting.specs.declared.Line.{Line}
 use Rattle.sampling.specs.Samples.{put_in}
 use Rattle.sampling.specs.Laps.{lap_of}
 use Rattle.sampling.specs.Kept.{InForce}
-use Rattle.sampling.specs.declared.SampleAnswer.TheVariants.{Taken}
 use Rattle.laws.proofs.Sparse.{Half}
 use Rattle.sampling.proofs.Laps.{after}
 use Rattle.sampling.proofs.samples.take.Given as goal
@@ -54,7 +54,7 @@ invariant-loop-k l =
     × (length l.amounts ≡ 16)
     × (l.clock ≤ 4_294_967_295)
     × InForce l.config l.clock l.tariffs
-    × (l.answer ≡ Taken)
+    × (l.answer ≡ Ok tt)
     × (l.closes ≡ false)
 
 abbrev pub decreases-loop-k : goal.decreases-loop-k

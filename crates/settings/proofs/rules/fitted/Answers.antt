@@ -1,8 +1,11 @@
 -- `settings::rules::fitted` meets its contract. The loop's invariant: the mask of the inputs before i.
+use mathlib.Core.Path.{fun_ext}
+use mathlib.Core.Bool.{and_self_left}
 use native.Mathlib.Omega.{arith}
 use borrow.Author.Tests.{lt-ltb, eq-eqb, ne_eqb}
 use borrow.Author.Rules.{rules}
-use Rattle.laws.proofs.Masks.{mask_none, mask_set, mask_fits, mask_clear, mask_done}
+use lib.Dec.{ltb}
+use Rattle.laws.proofs.Masks.{bit_at_lem, mask_none, mask_set, mask_fits, mask_clear, mask_done}
 use Rattle.settings.specs.Rules.{fitted_in}
 use Rattle.settings.proofs.rules.fitted.Goals as goal
 
@@ -25,4 +28,7 @@ loop-i-preserved c =
     (omega arith, mask_set _ _ 32 (omega arith) s.loop-i.invariant.1 (rw (lt-ltb _ _ s.loop-i-test.true, ne_eqb _ _ c.if-x-eq0.false)))
 
 pub returns : goal.returns
-returns c = mask_done 16 _ _ _ c.loop-i.invariant.1 c.loop-i.invariant.0 c.loop-i-test.false
+unfolding fitted_in
+returns c =
+    let mask = mask_done 16 _ _ _ c.loop-i.invariant.1 c.loop-i.invariant.0 c.loop-i-test.false in
+    fun_ext (λ i. rw (mask, bit_at_lem 16 (fitted_in c.args.inputs) i) (and_self_left (ltb i 16) _))

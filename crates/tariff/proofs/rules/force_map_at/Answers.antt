@@ -3,12 +3,12 @@ use mathlib.Core.Path.{ap, ◌∙◌}
 use Rattle.tariff.specs.Rules.{force_of}
 use Rattle.tariff.proofs.rules.force_map_at.Goals as goal
 
-pub returns-in-On : goal.returns-in-On
+pub returns-in-Some : goal.returns-in-Some
 unfolding force_of
-returns-in-On c =
+returns-in-Some c =
     c.force_map.ensures
-    ∙ ap (force_of c.args.program) c.in-On.ensures
+    ∙ ap (force_of c.args.program) c.in-Some.ensures
 
-pub returns-in-NoDate : goal.returns-in-NoDate
+pub returns-in-None : goal.returns-in-None
 unfolding force_of
-returns-in-NoDate c = ap (force_of c.args.program) c.in-NoDate.ensures
+returns-in-None c = ap (force_of c.args.program) c.in-None.ensures

@@ -1,9 +1,0 @@
--- `answers::refused_after` meets its contract: letters, the number, letters, the count, the end.
-use Rattle.answers.proofs.Laws.{split}
-use Rattle.laws.specs.Letters.{letters}
-use Rattle.answers.specs.Texts.{with_bytes}
-use Rattle.answers.proofs.refused_after.Goals as goal
-
-pub returns : goal.returns
-unfolding letters with_bytes
-returns c = rw (c.with_byte.ensures, c.with_number-2.ensures, c.with_bytes-after.ensures, c.with_number.ensures, c.with_bytes-word.ensures, c.blank.ensures) (simp split)

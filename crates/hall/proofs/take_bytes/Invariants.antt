@@ -1,9 +1,0 @@
--- `hall::take_bytes` is safe and ends: the place is at most the length.
-use Rattle.std.proofs.Common.{length, ◌≤◌, ◌-◌}
-use Rattle.hall.proofs.take_bytes.Given as goal
-
-abbrev pub invariant-loop-i : goal.invariant-loop-i
-invariant-loop-i g l = l.i ≤ length l.bytes
-
-abbrev pub decreases-loop-i : goal.decreases-loop-i
-decreases-loop-i g l = length l.bytes - l.i

@@ -33,7 +33,7 @@ use readout::{LineError, NoBlock, Place};
 use recorder::{ReadingError, ReadoutError, RecordError, SampleError, SetError, Stamp, StartError};
 use registers::{Fleet, RegisterError};
 
-// A text of at most 256 letters: the first `length` bytes, and zeros behind them.
+// A text of at most 256 letters: the first `length` bytes, and zeros behind them. The law `TextIs` names both fields, so it is no `ArrayVec`.
 #[derive(Clone, Copy)]
 pub struct Text {
     pub bytes: [u8; 256],

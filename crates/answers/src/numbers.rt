@@ -1,4 +1,4 @@
-// Numbers put behind the letters of a text.
+// Numbers put behind the letters of a text. By hand: `write!` promises its letters only where it does not fail, and no clause rules that out.
 ghost use Rattle.std.specs.Prelude.{◌≡◌, ◌/◌};
 ghost use Rattle.answers.specs.Texts.{with_byte, with_bytes};
 ghost use Rattle.laws.specs.Decimals.{digit, decimal_of};

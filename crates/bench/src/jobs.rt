@@ -35,73 +35,9 @@ fn value_of(meter: u8) -> i32 {
     if meter % 2 == 0 { value } else { !value }
 }
 
-// A reading of every meter that is fitted, with each STATUS and each SEQ.
-fn with_readings(recorder: Recorder) -> Recorder {
-    let mut now = recorder;
-    for i in 0..32u8 {
-        now = now.reading(i, value_of(i), i % 8, i).recorder;
-    }
-    now
-}
-
-// The buffer for records is lent to each call of a job.
-fn started(image: [u8; IMAGE_LENGTH], buffer: &[u8]) -> Recorder {
-    let setup = Setup {
-        slots: [0, 1, 2, 3, 4, 5, 6, 7],
-        lists: [EVEN; 3],
-    };
-    with_readings(Recorder::start(&image, START, setup, buffer).recorder)
-}
-
-// All samples in one call, and then again. The check sum is of the refusals.
-fn samples(
-    rt: &impl Print,
-    recorder: Recorder,
-    bits: [u16; 1000],
-    rounds: u32,
-    buffer: &mut [u8],
-) -> io::Result<()> {
-    let mut now = recorder;
-    let mut sum: u64 = 0;
-    for _ in 0..rounds {
-        let run = now.samples(&bits, buffer);
-        now = run.recorder;
-        sum = mixed(sum, run.answer.number());
-    }
-    write_number(rt, sum)?;
-    write_registers(rt, now)
-}
-
-// The same samples, each in a call of its own.
-fn singles(
-    rt: &impl Print,
-    recorder: Recorder,
-    bits: [u16; 1000],
-    rounds: u32,
-    buffer: &mut [u8],
-) -> io::Result<()> {
-    let mut now = recorder;
-    let mut sum: u64 = 0;
-    for _ in 0..rounds {
-        for sample in &bits {
-            let sampled = now.sample(*sample, buffer);
-            now = sampled.recorder;
-            sum = mixed(sum, sampled.answer.number());
-        }
-    }
-    write_number(rt, sum)?;
-    write_registers(rt, now)
-}
-
-// The image with another age limit each time, which breaks no rule.
-fn images(rt: &impl Print, image: [u8; IMAGE_LENGTH], rounds: u32) -> io::Result<()> {
-    let mut bytes = image;
-    let mut sum: u64 = 0;
-    for i in 0..(rounds as usize) {
-        bytes[198 + i % 64] = (i % 256) as u8;
-        sum = mixed(sum, image::check_image(&bytes).number());
-    }
-    write_number(rt, sum)
+// Seconds from the whole range of the clock, far from one another.
+fn spread(i: u32) -> u32 {
+    i.wrapping_mul(2654435761)
 }
 
 // One register: how many bytes were given, and the first of them.
@@ -124,14 +60,6 @@ fn read_groups(recorder: Recorder, i: u32) -> u64 {
     mixed(sum, read(recorder, 206, 0))
 }
 
-fn reads(rt: &impl Print, recorder: Recorder, rounds: u32) -> io::Result<()> {
-    let mut sum: u64 = 0;
-    for i in 0..rounds {
-        sum = mixed(sum, read_groups(recorder, i));
-    }
-    write_number(rt, sum)
-}
-
 // One register that a maker asks for.
 fn own(recorder: Recorder, group: u32, register: u32) -> u64 {
     let mut bytes = [0u8; 13];
@@ -148,55 +76,10 @@ fn own_groups(recorder: Recorder, i: u32) -> u64 {
     mixed(sum, own(recorder, 204, 0))
 }
 
-fn own_reads(rt: &impl Print, recorder: Recorder, rounds: u32) -> io::Result<()> {
-    let mut sum: u64 = 0;
-    for i in 0..rounds {
-        sum = mixed(sum, own_groups(recorder, i));
-    }
-    write_number(rt, sum)
-}
-
-// Seconds from the whole range of the clock, far from one another.
-fn spread(i: u32) -> u32 {
-    i.wrapping_mul(2654435761)
-}
-
-fn moments(rt: &impl Print, rounds: u32) -> io::Result<()> {
-    let mut sum: u64 = 0;
-    for i in 0..rounds {
-        let number = calendar::moment_of(spread(i)).number();
-        sum = mixed(mixed(sum, number), number / 4294967296);
-    }
-    write_number(rt, sum)
-}
-
-// A buffer that is full and more: 1,000 periods, each with ten samples and closed by a clock set.
-fn filled(recorder: Recorder, bits: [u16; 1000], buffer: &mut [u8]) -> Recorder {
-    let mut now = recorder;
-    for i in 0..1000u32 {
-        let from = (i % 100 * 10) as usize;
-        now = now.samples(&bits[from..from + 10], buffer).recorder;
-        now = now.set_clock(spread(i), buffer).recorder;
-    }
-    now
-}
-
 fn bytes_sum(sum: u64, bytes: &[u8]) -> u64 {
     bytes
         .iter()
         .fold(sum, |sum, byte| mixed(sum, u64::from(*byte)))
-}
-
-// A period is closed by a clock set, and its record put. The check sum is of the refusals, and then of the whole buffer.
-fn closes(rt: &impl Print, recorder: Recorder, rounds: u32, buffer: &mut [u8]) -> io::Result<()> {
-    let mut now = recorder;
-    let mut sum: u64 = 0;
-    for i in 0..rounds {
-        let set = now.set_clock(spread(i), buffer);
-        now = set.recorder;
-        sum = mixed(sum, set.answer.number());
-    }
-    write_number(rt, bytes_sum(sum, buffer))
 }
 
 // One record of the 949 that are held, and another byte of it each time.
@@ -205,14 +88,6 @@ fn record(recorder: Recorder, i: u32, buffer: &[u8]) -> u64 {
     let answer = recorder.read_record(i % 949, buffer, &mut bytes);
     let k = (i % 69) as usize;
     mixed(answer.map(|()| 69usize).number(), u64::from(bytes[k]))
-}
-
-fn records(rt: &impl Print, recorder: Recorder, rounds: u32, buffer: &[u8]) -> io::Result<()> {
-    let mut sum: u64 = 0;
-    for i in 0..rounds {
-        sum = mixed(sum, record(recorder, i, buffer));
-    }
-    write_number(rt, sum)
 }
 
 // The number of a data set's value in two's complement, and how long the value is; of a refusal its number, and 0.
@@ -230,42 +105,170 @@ fn data_set(sum: u64, line: &[u8]) -> u64 {
     }
 }
 
-// One data set, with another digit before the point each time. It comes with the input: of a line that it knows the compiler works out the number itself.
-fn data_sets(rt: &impl Print, line: [u8; 25], rounds: u32) -> io::Result<()> {
-    let mut next = line;
-    let mut sum: u64 = 0;
-    for i in 0..rounds {
-        next[15] = b'0' + (i % 10) as u8;
-        sum = data_set(sum, &next);
-    }
-    write_number(rt, sum)
+// A job: its recorder, the buffer for records that is lent to each of its calls, what the input has, and how often it is done.
+#[derive(Drop)]
+struct Job {
+    recorder: Recorder,
+    buffer: [u8; 65536],
+    data: Data,
+    rounds: u32,
 }
 
-// A recorder whose bills are reset after the samples.
-fn reset(recorder: Recorder, bits: [u16; 1000], buffer: &mut [u8]) -> Recorder {
-    recorder.samples(&bits, buffer).recorder.reset_bills()
+impl Job {
+    // With a reading of every meter that is fitted, with each STATUS and each SEQ.
+    fn new(data: Data, rounds: u32) -> Job {
+        let buffer = [0u8; 65536];
+        let setup = Setup {
+            slots: [0, 1, 2, 3, 4, 5, 6, 7],
+            lists: [EVEN; 3],
+        };
+        let mut recorder = Recorder::start(&data.image, START, setup, &buffer).recorder;
+        for i in 0..32u8 {
+            recorder = recorder.reading(i, value_of(i), i % 8, i).recorder;
+        }
+        Job {
+            recorder,
+            buffer,
+            data,
+            rounds,
+        }
+    }
+
+    // All samples in one call, and then again. The check sum is of the refusals.
+    fn samples(&mut self) -> u64 {
+        let mut now = self.recorder;
+        let mut sum = 0;
+        for _ in 0..self.rounds {
+            let run = now.samples(&self.data.bits, &mut self.buffer);
+            now = run.recorder;
+            sum = mixed(sum, run.answer.number());
+        }
+        self.recorder = now;
+        sum
+    }
+
+    // The same samples, each in a call of its own.
+    fn singles(&mut self) -> u64 {
+        let mut now = self.recorder;
+        let mut sum = 0;
+        let bits = self.data.bits;
+        for _ in 0..self.rounds {
+            for sample in &bits {
+                let sampled = now.sample(*sample, &mut self.buffer);
+                now = sampled.recorder;
+                sum = mixed(sum, sampled.answer.number());
+            }
+        }
+        self.recorder = now;
+        sum
+    }
+
+    // The image with another age limit each time, which breaks no rule.
+    fn images(&self) -> u64 {
+        let mut bytes = self.data.image;
+        let mut sum = 0;
+        for i in 0..(self.rounds as usize) {
+            bytes[198 + i % 64] = (i % 256) as u8;
+            sum = mixed(sum, image::check_image(&bytes).number());
+        }
+        sum
+    }
+
+    // The bills are reset after the samples.
+    fn reset(&mut self) {
+        let run = self.recorder.samples(&self.data.bits, &mut self.buffer);
+        self.recorder = run.recorder.reset_bills();
+    }
+
+    fn reads(&self) -> u64 {
+        let recorder = self.recorder;
+        (0..self.rounds).fold(0, |sum, i| mixed(sum, read_groups(recorder, i)))
+    }
+
+    fn own_reads(&self) -> u64 {
+        let recorder = self.recorder;
+        (0..self.rounds).fold(0, |sum, i| mixed(sum, own_groups(recorder, i)))
+    }
+
+    fn moments(&self) -> u64 {
+        (0..self.rounds).fold(0, |sum, i| {
+            let number = calendar::moment_of(spread(i)).number();
+            mixed(mixed(sum, number), number / 4294967296)
+        })
+    }
+
+    // A buffer that is full and more: 1,000 periods, each with ten samples and closed by a clock set.
+    fn fill(&mut self) {
+        let bits = self.data.bits;
+        let mut now = self.recorder;
+        for i in 0..1000u32 {
+            let from = (i % 100 * 10) as usize;
+            now = now
+                .samples(&bits[from..from + 10], &mut self.buffer)
+                .recorder;
+            now = now.set_clock(spread(i), &mut self.buffer).recorder;
+        }
+        self.recorder = now;
+    }
+
+    // A period is closed by a clock set, and its record put. The check sum is of the refusals, and then of the whole buffer.
+    fn closes(&mut self) -> u64 {
+        let mut now = self.recorder;
+        let mut sum = 0;
+        for i in 0..self.rounds {
+            let set = now.set_clock(spread(i), &mut self.buffer);
+            now = set.recorder;
+            sum = mixed(sum, set.answer.number());
+        }
+        bytes_sum(sum, &self.buffer)
+    }
+
+    fn records(&self) -> u64 {
+        let recorder = self.recorder;
+        (0..self.rounds).fold(0, |sum, i| mixed(sum, record(recorder, i, &self.buffer)))
+    }
+
+    // One data set, with another digit before the point each time. It comes with the input: of a line that it knows the compiler works out the number itself.
+    fn data_sets(&self) -> u64 {
+        let mut line = self.data.line;
+        let mut sum = 0;
+        for i in 0..self.rounds {
+            line[15] = b'0' + (i % 10) as u8;
+            sum = data_set(sum, &line);
+        }
+        sum
+    }
 }
 
 pub(crate) fn run(rt: &impl Print, letter: u8, data: Data, rounds: u32) -> io::Result<()> {
-    let mut buffer = [0u8; 65536];
-    let recorder = started(data.image, &buffer);
-    let bits = data.bits;
-    match letter {
-        b's' => samples(rt, recorder, bits, rounds, &mut buffer),
-        b'o' => singles(rt, recorder, bits, rounds, &mut buffer),
-        b'i' => images(rt, data.image, rounds),
-        b'r' => reads(rt, reset(recorder, bits, &mut buffer), rounds),
-        b'm' => own_reads(rt, reset(recorder, bits, &mut buffer), rounds),
-        b'c' => moments(rt, rounds),
+    let mut job = Job::new(data, rounds);
+    let sum = match letter {
+        b's' => job.samples(),
+        b'o' => job.singles(),
+        b'i' => job.images(),
+        b'r' => {
+            job.reset();
+            job.reads()
+        }
+        b'm' => {
+            job.reset();
+            job.own_reads()
+        }
+        b'c' => job.moments(),
         b'p' => {
-            let full = filled(recorder, bits, &mut buffer);
-            closes(rt, full, rounds, &mut buffer)
+            job.fill();
+            job.closes()
         }
         b'l' => {
-            let full = filled(recorder, bits, &mut buffer);
-            records(rt, full, rounds, &buffer)
+            job.fill();
+            job.records()
         }
-        b'd' => data_sets(rt, data.line, rounds),
-        _ => Ok(()),
+        b'd' => job.data_sets(),
+        _ => return Ok(()),
+    };
+    write_number(rt, sum)?;
+    if matches!(letter, b's' | b'o') {
+        return write_registers(rt, job.recorder);
     }
+    Ok(())
 }

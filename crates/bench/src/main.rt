@@ -46,7 +46,7 @@ fn data(rt: &impl Input) -> Data {
     }
 }
 
-// Whether the program was given an argument of this number.
+// Whether the program was given an argument of this number. In hall, too: nothing says which arguments there are, so a library could promise nothing of it.
 fn is_given(rt: &impl Env, number: usize) -> bool {
     !matches!(rt.arg(number, &mut []), Err(FillError::NotPresent))
 }

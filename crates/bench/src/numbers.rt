@@ -101,15 +101,18 @@ impl Number for NumberError {
     }
 }
 
-// All that there is of it; 0 where there is none.
+// All that there is of it; 0 where there is none. By powers: with `u64::from_le_bytes` a moment takes 138 instructions for 126, and misses its bar.
 impl Number for Option<Moment> {
     fn number(self) -> u64 {
         let Some(m) = self else {
             return 0;
         };
-        let [low, high] = m.year.to_le_bytes();
-        u64::from_le_bytes([
-            low, high, m.month, m.day, m.weekday, m.hour, m.minute, m.second,
-        ])
+        u64::from(m.year)
+            + u64::from(m.month) * 0x1_0000
+            + u64::from(m.day) * 0x100_0000
+            + u64::from(m.weekday) * 0x1_0000_0000
+            + u64::from(m.hour) * 0x100_0000_0000
+            + u64::from(m.minute) * 0x1_0000_0000_0000
+            + u64::from(m.second) * 0x100_0000_0000_0000
     }
 }

@@ -2,19 +2,6 @@
 use recorder::Recorder;
 use std::io;
 
-// The groups, and how many registers each has.
-const GROUPS: [(u32, u32); 9] = [
-    (82, 32),
-    (89, 1),
-    (90, 32),
-    (91, 16),
-    (201, 16),
-    (202, 16),
-    (203, 16),
-    (204, 1),
-    (206, 1),
-];
-
 pub(crate) fn write_number(rt: &impl Print, n: u64) -> io::Result<()> {
     println!(rt; "{n}")
 }
@@ -36,11 +23,22 @@ fn write_register(
     rt.write_all(b"\n")
 }
 
-pub(crate) fn write_registers(rt: &impl Print, recorder: Recorder) -> io::Result<()> {
-    for (group, registers) in GROUPS {
-        for i in 0..registers {
-            write_register(rt, recorder, group, i)?;
-        }
+fn write_group(rt: &impl Print, recorder: Recorder, group: u32, registers: u32) -> io::Result<()> {
+    for i in 0..registers {
+        write_register(rt, recorder, group, i)?;
     }
     Ok(())
+}
+
+// A call for each group: with a loop over them a register read of a job takes 630 instructions for 537.
+pub(crate) fn write_registers(rt: &impl Print, recorder: Recorder) -> io::Result<()> {
+    write_group(rt, recorder, 82, 32)?;
+    write_group(rt, recorder, 89, 1)?;
+    write_group(rt, recorder, 90, 32)?;
+    write_group(rt, recorder, 91, 16)?;
+    write_group(rt, recorder, 201, 16)?;
+    write_group(rt, recorder, 202, 16)?;
+    write_group(rt, recorder, 203, 16)?;
+    write_group(rt, recorder, 204, 1)?;
+    write_group(rt, recorder, 206, 1)
 }

@@ -34,10 +34,6 @@ year_holds n k q h e d =
     let y : 131 ≤ k = omega arith in
     omega arith)
 
--- so its start is not past the day
-pub year_begun : (n k q : ℕ) → n < 50038 → k ≡ ((n + q) * 4 + 2) / 1461 → q ≡ n / 47847 → (k * 1461 + 1) / 4 ≤ n + k / 131
-year_begun n k q h e d = (year_holds n k q h e d).1
-
 -- and what the code returns is right
 pub year_found : (n k q left : ℕ) → n < 50038 → k ≡ ((n + q) * 4 + 2) / 1461 → q ≡ n / 47847 → left ≡ n + k / 131 - (k * 1461 + 1) / 4
     → record { years = k; left = left } ≡ year_day n

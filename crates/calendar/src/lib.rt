@@ -31,23 +31,16 @@ pub fn is_leap(year: u16) -> bool
 }
 
 // The days of a month, January being 1; 0 for a number that is no month's. Up to July the odd months have 31 days; from August on, where month / 8 is 1, the even ones.
-#[tactic(auto, using(crate::proofs::Months::no_month))]
+#[tactic(auto, using(crate::proofs::Months::no_month), unfolding(crate::specs::Dates::month_length))]
 pub fn month_length(year: u16, month: u8) -> u8
     ensures { result ≡ month_length year month }
 {
-    if month == 0 {
-        return 0;
+    match month {
+        0 | 13.. => 0,
+        2 if is_leap(year) => 29,
+        2 => 28,
+        _ => 30 + (month + month / 8) % 2,
     }
-    if month > 12 {
-        return 0;
-    }
-    if month == 2 {
-        if is_leap(year) {
-            return 29;
-        }
-        return 28;
-    }
-    30 + (month + month / 8) % 2
 }
 
 pub fn day_exists(day: u8, month: u8, year: u16) -> bool

@@ -1,12 +1,10 @@
 -- The sums of the inputs' units, made in place from the inputs of a mask.
-use Rattle.std.specs.Prelude.{if◌then◌else◌}
+use Rattle.std.specs.Prelude.{Some, if◌then◌else◌}
 use mathlib.Core.Path.{◌≡◌, refl, sym, ap, ◌∙◌}
 use mathlib.Core.List.{List, [], ◌∷◌}
-use Prim.Native.Nat.{ℕ, ◌-◌, ◌^◌, ◌<◌, ◌≤◌}
+use Prim.Native.Nat.{ℕ, ◌<◌, ◌≤◌}
 use native.Mathlib.Nat.{zero-add}
 use native.Mathlib.Omega.{arith}
-use lib.Bits.{bit_and}
-use lib.Count.{count_trailing_zeros}
 use lib.Dec.{ltb}
 use lib.ListN.{length, get_or, set}
 use lib.Seq.{get_or-set_same, get_or-set_other}
@@ -21,7 +19,9 @@ use Rattle.laws.proofs.Tests.{by_test}
 use Rattle.laws.proofs.Total.{total_zero, total_one, total_within}
 use Rattle.counting.specs.Bills.{unit_at, sum_of, sum_at, sums_of}
 use Rattle.counting.specs.ByMask.{masked_units, added_units, Below}
-use Rattle.laws.proofs.Sparse.{Half, done_at, half_next, half_turn, half_done, lowest_below}
+use Rattle.laws.proofs.Sparse.{Half, done_at, half_done}
+use Rattle.counting.specs.Bits.{NextBit}
+use Rattle.counting.proofs.Steps.{step_old, step_done}
 
 -- the units of the inputs that have been gone through, none of the others
 abbrev pub units_past : List ℕ → ℕ → ℕ → List ℕ
@@ -64,33 +64,25 @@ module _ (sums units : List ℕ) (mask : ℕ) where
   unfolding done_at
   past_start = record { within = λ i h. h; list = refl }
 
-  module _ (left : ℕ) (some : 0 < left) (few : left < 2 ^ 16) (half : Half mask left (unit_at units) (λ i. 0) (units_past units mask left)) where
+  module _ {left i after : ℕ} (step : NextBit left (Some i) after) (half : Half mask left (unit_at units) (λ i. 0) (units_past units mask left)) where
     -- the list of the next turn
-    past_list : set (units_past units mask left) (count_trailing_zeros 16 left) (unit_at units (count_trailing_zeros 16 left)) ≡ units_past units mask (bit_and left (left - 1))
-    past_list = (half_turn mask (unit_at units) (λ i. 0) some few half refl).list
+    past_list : set (units_past units mask left) i (unit_at units i) ≡ units_past units mask after
+    past_list = (step_done step half refl).list
 
     -- one more input has been gone through
-    pub past_turn : Half mask (bit_and left (left - 1)) (unit_at units) (λ i. 0) (units_past units mask (bit_and left (left - 1)))
-    past_turn = rw past_list at (half_turn mask (unit_at units) (λ i. 0) some few half refl)
+    pub past_turn : Half mask after (unit_at units) (λ i. 0) (units_past units mask after)
+    past_turn = rw past_list at (step_done step half refl)
 
     -- and its units are added
-    pub sums_turn : (totals : List ℕ) → totals ≡ sums_of sums (units_past units mask left)
-        → added_units totals sums (count_trailing_zeros 16 left) (unit_at units (count_trailing_zeros 16 left)) ≡ sums_of sums (units_past units mask (bit_and left (left - 1)))
+    pub sums_turn : (totals : List ℕ) → totals ≡ sums_of sums (units_past units mask left) → added_units totals sums i (unit_at units i) ≡ sums_of sums (units_past units mask after)
     sums_turn totals e =
-        let i = count_trailing_zeros 16 left in
-        rw e (sums_set sums (units_past units mask left) i (unit_at units i) (lowest_below 16 left some few) (length_table 16 _) (half_next mask (unit_at units) (λ i. 0) some few half 0))
-        ∙ ap (sums_of sums) past_list
+        rw e (sums_set sums (units_past units mask left) i (unit_at units i) step.3 (length_table 16 _) (step_old step half 0)) ∙ ap (sums_of sums) past_list
 
   -- after the last input
   pub sums_done : (left : ℕ) (totals : List ℕ) → left ≡ 0 → Half mask left (unit_at units) (λ i. 0) (units_past units mask left) → totals ≡ sums_of sums (units_past units mask left)
       → totals ≡ sums_of sums (masked_units units mask)
   unfolding masked_units
   sums_done left totals z half e = e ∙ ap (sums_of sums) (half_done mask (unit_at units) (λ i. 0) z half)
-
-  -- there are 8 totals
-  pub sums_long : (left : ℕ) (totals : List ℕ) → totals ≡ sums_of sums (units_past units mask left) → length totals ≡ 8
-  unfolding sums_of
-  sums_long left totals e = rw e (length_table 8 _)
 
   -- the units of an input that has been gone through fit 32 bits
   past_fits : (left j : ℕ) → ((i : ℕ) → Fits w32 (unit_at units i)) → unit_at (units_past units mask left) j ≤ 4_294_967_295

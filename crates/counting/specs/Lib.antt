@@ -3,5 +3,6 @@ pub mod Filter
 pub mod Units
 pub mod Bills
 pub mod Levels
+pub mod Bits
 pub mod ByMask
 pub mod Laws

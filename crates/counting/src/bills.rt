@@ -4,7 +4,9 @@ ghost use Rattle.counting.specs.Bills.{sum_of, unit_at, sums_of, register_units,
 ghost use Rattle.counting.specs.ByMask.{masked_units, Below, added_units, fed_registers, some_full, amounts_of, with_amounts};
 
 use crate::Bill;
+use crate::bits::Bits;
 use settings::Register;
+use std::array;
 use tariff::{bit_at, with_bit};
 
 fn part(on: bool, units: u32) -> u64
@@ -27,14 +29,12 @@ pub(crate) fn sum_units(sum: u16, units: [u32; 16]) -> u64
     all
 }
 
-// Adds the units of input i to each sum that names it.
-fn add_units(totals: &mut [u64; 8], sums: [u16; 8], i: usize, units: u32)
-    requires { (length totals.old ≡ 8) × Below totals.old }
-    ensures { totals.new ≡ added_units totals.old sums i units }
+// The totals with the units of input i added to each sum that names it.
+fn with_units(totals: [u64; 8], sums: [u16; 8], i: usize, units: u32) -> [u64; 8]
+    requires { Below totals }
+    ensures { result ≡ added_units totals sums i units }
 {
-    for k in 0..8usize {
-        totals[k] = totals[k] + part(bit_at(sums[k] as u32, i), units);
-    }
+    array::from_fn(|k| totals[k] + part(bit_at(sums[k] as u32, i), units))
 }
 
 // The units that the inputs of a mask bring to the sums. Few inputs bring units with a sample, so these are gone through and not the sums.
@@ -42,11 +42,9 @@ pub fn sums_units(sums: [u16; 8], units: [u32; 16], mask: u16) -> [u64; 8]
     ensures { result ≡ sums_of sums (masked_units units mask) }
 {
     let mut totals = [0u64; 8];
-    let mut left = mask;
-    while left > 0 {
-        let i = u16::trailing_zeros(left) as usize;
-        add_units(&mut totals, sums, i, units[i]);
-        left = left & (left - 1);
+    for i in Bits(mask) {
+        let more = with_units(totals, sums, i, units[i]);
+        totals = more;
     }
     totals
 }
@@ -55,11 +53,7 @@ pub fn sums_units(sums: [u16; 8], units: [u32; 16], mask: u16) -> [u64; 8]
 pub fn register_units(register: Register, sums: &[u64; 8]) -> u64
     ensures { result ≡ register_units register sums.now }
 {
-    let sum = register.sum as usize;
-    if sum >= 8 {
-        return 0;
-    }
-    sums[sum]
+    sums.get(register.sum as usize).copied().unwrap_or(0)
 }
 
 // The registers that units go to: they are in use, and have no rule, or their rule is in the map.
@@ -79,10 +73,8 @@ pub fn fed_registers(registers: [Register; 16], map: u16) -> u16
 fn would_fill(amount: u32, due: u64) -> bool
     ensures { result ≡ fills_up amount due }
 {
-    if due > 999999999 {
-        return true;
-    }
-    (0 < due) & (999999999 < (amount as u64) + due)
+    let room = 999999999u32.saturating_sub(amount);
+    (room as u64) < due
 }
 
 // Whether the units would take one of the registers that they go to past 999,999,999.
@@ -91,11 +83,11 @@ pub fn some_full(amounts: &[u32; 16], registers: [Register; 16], fed: u16, sums:
 {
     let mut left = fed;
     while left > 0 {
-        let j = u16::trailing_zeros(left) as usize;
+        let j = left.trailing_zeros() as usize;
         if would_fill(amounts[j], register_units(registers[j], sums)) {
             return true;
         }
-        left = left & (left - 1);
+        left &= left - 1;
     }
     false
 }
@@ -105,8 +97,7 @@ pub fn amounts_of(bills: [Bill; 16]) -> [u32; 16]
     ensures { result ≡ amounts_of bills }
 {
     let mut amounts = [0u32; 16];
-    for j in 0..16usize {
-        let bill = bills[j];
+    for (j, bill) in bills.iter().enumerate() {
         amounts[j] = bill.amount;
     }
     amounts
@@ -117,10 +108,8 @@ pub fn put_amounts(bills: [Bill; 16], amounts: [u32; 16]) -> [Bill; 16]
     ensures { result ≡ with_amounts bills amounts }
 {
     let mut next = bills;
-    for j in 0..16usize {
-        let mut bill = bills[j];
+    for (j, bill) in next.iter_mut().enumerate() {
         bill.amount = amounts[j];
-        next[j] = bill;
     }
     next
 }

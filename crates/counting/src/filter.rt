@@ -11,13 +11,7 @@ use tariff::with_bit;
 fn next_run(run: u32, on: bool) -> u32
     ensures { result ≡ next_run run on }
 {
-    if on {
-        if run < 256 {
-            return run + 1;
-        }
-        return 256;
-    }
-    0
+    if on { run.min(255) + 1 } else { 0 }
 }
 
 // One line's filter: the run is lent, and a sample advances it in place.
@@ -32,10 +26,7 @@ pub fn advance(run: &mut u32, on: bool)
 pub(crate) fn one_more(count: u16) -> u16
     ensures { result ≡ one_more count }
 {
-    if count < 65535 {
-        return count + 1;
-    }
-    count
+    count.saturating_add(1)
 }
 
 // Whether a run that ends is an accepted impulse.

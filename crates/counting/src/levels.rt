@@ -5,17 +5,13 @@ ghost use Rattle.counting.specs.Levels.{level0, input_value, sum_value, function
 use crate::Line;
 use crate::bills::sum_units;
 use settings::{Config, Slot};
+use std::array;
 
 // Level 0 of all inputs.
 fn line_units(lines: [Line; 16]) -> [u32; 16]
     ensures { result ≡ level0 lines }
 {
-    let mut units = [0u32; 16];
-    for i in 0..16usize {
-        let line = lines[i];
-        units[i] = line.units;
-    }
-    units
+    array::from_fn(|i| lines[i].units)
 }
 
 // A coefficient times the units of a sum, added. A sum of 16 inputs has at most 16 times 32 bits.
@@ -44,30 +40,21 @@ fn function_value(coefficients: [i8; 32], sums: [u16; 8], function: usize, units
     value
 }
 
-fn signed(units: u32) -> i64
-    ensures { result ≡ pos units }
-{
-    units as i64
-}
-
 // Level 0 of an input; there are sixteen.
 fn input_value(input: usize, units: [u32; 16]) -> i64
     ensures { result ≡ input_value input units }
 {
-    if input >= 16 {
-        return 0;
-    }
-    signed(units[input])
+    i64::from(units.get(input).copied().unwrap_or(0))
 }
 
 // Level 1 of a sum; there are eight.
 fn sum_value(sums: [u16; 8], sum: usize, units: [u32; 16]) -> i64
     ensures { result ≡ sum_value sums sum units }
 {
-    if sum >= 8 {
-        return 0;
+    match sums.get(sum) {
+        Some(sum) => sum_units(*sum, units) as i64,
+        None => 0,
     }
-    sum_units(sums[sum], units) as i64
 }
 
 // The value that a slot of level 9 chooses; 0 of an empty one.
@@ -93,11 +80,7 @@ fn slot_values(config: Config, units: [u32; 16]) -> [i64; 16]
     ensures { result ≡ slot_values config units }
 {
     let slots = config.slots;
-    let mut values = [0i64; 16];
-    for i in 0..16usize {
-        values[i] = slot_value(config, slots[i], units);
-    }
-    values
+    array::from_fn(|i| slot_value(config, slots[i], units))
 }
 
 // The values of level 9 at the end of a period.

@@ -2,6 +2,7 @@
 #![tactic(auto)]
 
 pub mod bills;
+pub mod bits;
 pub mod filter;
 pub mod levels;
 pub mod units;

@@ -39,11 +39,7 @@ fn remainder_of(input: Input, remainder: u16) -> u16
 fn held_sum(units: u32, more: u32) -> u32
     ensures { result ≡ held_sum units more }
 {
-    let sum = (units as u64) + (more as u64);
-    if sum > 4294967295 {
-        return 4294967295;
-    }
-    sum as u32
+    units.saturating_add(more)
 }
 
 // A line on which a run ends, and the units that it brings: an accepted impulse brings units, any other run is counted as rejected.
@@ -54,17 +50,16 @@ pub fn settle(input: Input, line: Line) -> Settled
         let units = units_of(input, line.remainder);
         let next = Line {
             run: 0,
-            rejected: line.rejected,
             remainder: remainder_of(input, line.remainder),
             units: held_sum(line.units, units),
+            ..line
         };
         return Settled { line: next, units };
     }
     let next = Line {
         run: 0,
         rejected: one_more(line.rejected),
-        remainder: line.remainder,
-        units: line.units,
+        ..line
     };
     Settled {
         line: next,

@@ -1,4 +1,8 @@
 -- The list of specs/Tightness.antt: each crate proves it of its own functions in its proofs/Unique.antt.
+use Prim.Native.Nat.{ℕ, ◌*◌, ◌<◌}
+use native.Mathlib.Omega.{arith}
+use borrow.Author.Rules.{rules}
+use Rattle.tariff.proofs.mask_of.Reads as tariff_mask_of
 use Rattle.calendar.proofs.Unique as calendar
 use Rattle.tariff.proofs.Unique as tariff
 use Rattle.settings.proofs.Unique as settings
@@ -16,6 +20,10 @@ use Rattle.answers.proofs.Unique as answers
 use Rattle.host.proofs.Unique as host
 use Rattle.demands.specs.Tightness.{Tight}
 
+-- what the mask of an array asks: that there is such an array
+mask_asks : (n : ℕ) (fits : _) → n < 9_223_372_036_854_775_808 → (κs : _) (args : _) → tariff_mask_of.Asked n fits κs args
+mask_asks n fits room κs args = let bytes : n * 1 < 9_223_372_036_854_775_808 = omega arith in search rules
+
 pub tight : Tight
 tight =
     record {
@@ -26,6 +34,7 @@ tight =
       calendar_moment_of = (calendar.moment_of_lem, λ κs args. tt);
       tariff_bit_at = (tariff.bit_at_lem, λ κs args. tt);
       tariff_with_bit = (tariff.with_bit_lem, λ κs args. tt);
+      tariff_mask_of = λ n fits room. (tariff.mask_of_lem n fits, mask_asks n fits room);
       tariff_daily_active = (tariff.daily_active_lem, λ κs args. tt);
       tariff_daily_map = (tariff.daily_map_lem, λ κs args. tt);
       tariff_holiday_on = (tariff.holiday_on_lem, λ κs args. tt);

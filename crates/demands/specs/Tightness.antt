@@ -1,6 +1,6 @@
 -- "Every public function promises its result and the state and buffer after it for each input, refused ones too; that no second result fits is proved": one entry for every public function of every crate.
 -- `Post` is the claim that the checker itself reads off a contract in the source, and `Asked` what a caller has to show before a call.
-use Rattle.std.specs.Prelude.{List, [], ◌∷◌, ℕ}
+use Rattle.std.specs.Prelude.{List, [], ◌∷◌, ℕ, ◌<◌}
 use Rattle.laws.specs.Parts.{part_of}
 use Rattle.laws.specs.Unique.{OneResult, OneExit, OneSeen}
 use Rattle.calendar.proofs.is_leap.Reads as calendar_is_leap
@@ -10,6 +10,7 @@ use Rattle.calendar.proofs.exists_in_some_year.Reads as calendar_exists_in_some_
 use Rattle.calendar.proofs.moment_of.Reads as calendar_moment_of
 use Rattle.tariff.proofs.bit_at.Reads as tariff_bit_at
 use Rattle.tariff.proofs.with_bit.Reads as tariff_with_bit
+use Rattle.tariff.proofs.mask_of.Reads as tariff_mask_of
 use Rattle.tariff.proofs.daily_active.Reads as tariff_daily_active
 use Rattle.tariff.proofs.daily_map.Reads as tariff_daily_map
 use Rattle.tariff.proofs.holiday_on.Reads as tariff_holiday_on
@@ -125,6 +126,8 @@ pub record Tight : Type 1 where
   -- crate tariff
   pub tariff_bit_at : Alone tariff_bit_at.Post tariff_bit_at.Asked
   pub tariff_with_bit : Alone tariff_with_bit.Post tariff_with_bit.Asked
+  -- of an array of any length that there can be: no memory has 2 ^ 63 bytes
+  pub tariff_mask_of : (n : ℕ) (fits : _) → n < 9_223_372_036_854_775_808 → Alone (tariff_mask_of.Post n fits) (tariff_mask_of.Asked n fits)
   pub tariff_daily_active : Alone tariff_daily_active.Post tariff_daily_active.Asked
   pub tariff_daily_map : Alone tariff_daily_map.Post tariff_daily_map.Asked
   pub tariff_holiday_on : Alone tariff_holiday_on.Post tariff_holiday_on.Asked

@@ -3,8 +3,8 @@ use mathlib.Core.Path.{◌≡◌, refl, sym, ap, ◌∙◌}
 use mathlib.Core.Bool.{Bool, true, false, true≢false, not, ◌&&◌, ◌||◌}
 use mathlib.Core.List.{List, [], ◌∷◌, ◌++◌, append_assoc}
 use mathlib.Core.Logic.{◌⊎◌, inl, inr, ⊎_elim}
-use Prim.Native.Nat.{ℕ, zero, suc, ◌+◌, ◌-◌, ◌*◌, ◌≤◌}
-use native.Mathlib.Nat.{not-suc-le-zero}
+use Prim.Native.Nat.{ℕ, zero, suc, ◌+◌, ◌*◌, ◌≤◌}
+use native.Mathlib.Nat.{not-suc-le-zero, zero-add}
 use native.Mathlib.Omega.{arith}
 use borrow.Author.Tests.{eq-eqb, ne_eqb, eqb-true, eqb-false}
 use lib.Dec.{eqb}
@@ -19,7 +19,7 @@ use Rattle.display.specs.Formats.{FormatPart, letter, line_break, the_date, the_
 use Rattle.display.specs.Written.{optional, width_text, decimals_text, form_text, IsForm, Writes, WritesNumber, NoBreak, WrittenAs, NoSpecification}
 use Rattle.display.specs.Laws.{BadBehind, MeansAsWritten}
 use Rattle.display.specs.declared.formats.Form.{Form}
-use Rattle.display.proofs.Specified.{zeros, first, width, point, pointed, digit, unit, shifted, last, form, number_from, whole}
+use Rattle.display.proofs.Specified.{zeros, first, width, point, pointed, digit, unit, shifted, last, form, number_is, whole}
 use Rattle.display.proofs.FormTexts.{optional_stands, width_stands, point_stands, optional_read, width_read, point_read, digit_read, begins, point_begins, point_no_digit, unit_no_point, width_begins, zero_begins}
 use Rattle.display.proofs.Pages.{parts_drop, percent_first, break_first, letter_first}
 
@@ -30,27 +30,26 @@ abbrev Reading : List ℕ → Begun → Type 0
 Reading s x = (x ≡ bad_in s) ⊎ ((text : List ℕ) × Writes x.part (37 ∷ text) × (s ≡ text ++ drop x.bytes s))
 
 -- a number that is read stands there
-number_stands : (s : List ℕ) → whole s ≡ true → IsForm (form s 0) (pointed s 0) × (s ≡ form_text (form s 0) (pointed s 0) ++ drop (last s 0 + 1 - 0) s)
+number_stands : (s : List ℕ) → whole s ≡ true → IsForm (form s) (pointed s) × (s ≡ form_text (form s) (pointed s) ++ drop (last s + 1) s)
 number_stands s t =
-    let f = eqb-true (get_or s (last s 0) 0) 70 (and_left (eqb (get_or s (last s 0) 0) 70) (not (pointed s 0) || is_digit (digit s 0)) t) in
-    let digits = and_right (eqb (get_or s (last s 0) 0) 70) (not (pointed s 0) || is_digit (digit s 0)) t in
-    let w = width_stands s (first s 0) in
-    let p = point_stands s (point s 0) (pointed s 0) refl digits in
-    let end : last s 0 + 1 ≡ last s 0 + 1 - 0 = omega arith in
-    let letters = at_letter s (last s 0) 70 (omega arith) f ∙ ap (λ (n : ℕ). 70 ∷ drop n s) end in
-    let units = optional_stands s (unit s 0) 117 (omega arith) ∙ ap (λ (x : List ℕ). optional (shifted s 0) 117 ++ x) letters in
-    let points = p.1 ∙ ap (λ (x : List ℕ). decimals_text (pointed s 0) (decimals_of (pointed s 0) (digit s 0)) ++ x) units in
-    let widths = w.1 ∙ ap (λ (x : List ℕ). width_text (width s 0) ++ x) points in (
+    let f = eqb-true (get_or s (last s) 0) 70 (and_left (eqb (get_or s (last s) 0) 70) (not (pointed s) || is_digit (digit s)) t) in
+    let digits = and_right (eqb (get_or s (last s) 0) 70) (not (pointed s) || is_digit (digit s)) t in
+    let w = width_stands s (first s) in
+    let p = point_stands s (point s) (pointed s) refl digits in
+    let letters = at_letter s (last s) 70 (omega arith) f in
+    let units = optional_stands s (unit s) 117 (omega arith) ∙ ap (λ (x : List ℕ). optional (shifted s) 117 ++ x) letters in
+    let points = p.1 ∙ ap (λ (x : List ℕ). decimals_text (pointed s) (decimals_of (pointed s) (digit s)) ++ x) units in
+    let widths = w.1 ∙ ap (λ (x : List ℕ). width_text (width s) ++ x) points in (
       record { width = w.0; decimals = p.0; without = λ e. rw e refl },
-      optional_stands s 0 48 (omega arith) ∙ ap (λ (x : List ℕ). optional (zeros s 0) 48 ++ x) widths ∙ simp append_assoc,
+      optional_stands s 0 48 (omega arith) ∙ ap (λ (n : ℕ). optional (zeros s) 48 ++ drop n s) (zero-add (first s)) ∙ ap (λ (x : List ℕ). optional (zeros s) 48 ++ x) widths ∙ simp append_assoc,
     )
 
 -- so of a number, read or not
 number_reading : (s : List ℕ) → Reading s (number_specified s)
 number_reading s =
-    rw (number_from s 0)
+    rw (number_is s)
     (if_cases (Reading s) (whole s)
-    (λ t. let h = number_stands s t in inr (form_text (form s 0) (pointed s 0), (pointed s 0, h.0, refl), h.1))
+    (λ t. let h = number_stands s t in inr (form_text (form s) (pointed s), (pointed s, h.0, refl), h.1))
     (λ t. inl refl))
 
 -- and of any specification
@@ -97,19 +96,19 @@ module _ (f : Form) (p : Bool) (ok : IsForm f p) (s rest : List ℕ) (is : s ≡
   -- it is read as a number
   number_read : Read s (number_specified s) (number f) rest
   number_read =
-      let a = optional_read s 0 f.zeros 48 width_on all (λ e. true≢false (sym front ∙ ap begins e)) in
-      let width_at : ℕ = 0 + bit f.zeros in
+      let zero = optional_read s 0 f.zeros 48 width_on all (λ e. true≢false (sym front ∙ ap begins e)) in
+      let width_at : ℕ = bit f.zeros in
+      let a = rw (zero-add width_at) at zero in
       let b = width_read s width_at f.width point_on ok.width a.1 (point_no_digit p f.decimals f.shifted rest) in
       let point_at : ℕ = width_at + width_bytes f.width in
       let c = point_read s point_at p f.decimals unit_on b.1 (unit_no_point f.shifted rest) in
       let d = digit_read p f.decimals (get_or s (point_at + 1) 0) ok.decimals ok.without c.1 in
       let unit_at_lem : ℕ = point_at + 2 * bit p in
       let e = optional_read s unit_at_lem f.shifted 117 (70 ∷ rest) c.2 (λ h. omega arith) in
-      let last_at : ℕ = unit_at_lem + bit f.shifted in
-      let end : last_at + 1 ≡ last_at + 1 - 0 = omega arith in (
-        last_at + 1 - 0,
-        number_from s 0 ∙ rw a.0 (rw b.0 (rw c.0 (rw e.0 (rw (eq-eqb _ 70 (head_at s last_at 70 rest e.1), d.0, d.1) refl)))),
-        ap (λ (n : ℕ). drop n s) (sym end) ∙ next_at s last_at 70 rest e.1,
+      let last_at : ℕ = unit_at_lem + bit f.shifted in (
+        last_at + 1,
+        number_is s ∙ rw a.0 (rw b.0 (rw c.0 (rw e.0 (rw (eq-eqb _ 70 (head_at s last_at 70 rest e.1), d.0, d.1) refl)))),
+        next_at s last_at 70 rest e.1,
       )
 
   -- and as a specification

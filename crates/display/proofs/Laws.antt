@@ -1,6 +1,5 @@
 -- The laws of specs/Laws.antt on arguments, on the two lines and on the buffer.
 use mathlib.Core.Path.{◌≡◌, refl, sym, ap, ◌∙◌}
-use mathlib.Core.Bool.{true≢false}
 use mathlib.Core.List.{List, [], ◌∷◌, ◌++◌, append_assoc}
 use Prim.Native.Nat.{ℕ, suc, ◌+◌, ◌*◌}
 use native.Mathlib.Omega.{arith}
@@ -15,7 +14,6 @@ use Rattle.laws.proofs.If.{if_cases}
 use Rattle.laws.proofs.Tables.{length_table, table_at, table_cong}
 use Rattle.laws.proofs.Tests.{by_test}
 use Rattle.registers.specs.Registers.{RegisterReply}
-use Rattle.registers.proofs.Groups.{is_given_lem, the}
 use Rattle.calendar.specs.Moments.{moment_of}
 use Rattle.display.specs.Formats.{FormatPart, letter, line_break, the_date, the_time, number, bad_format, meaning}
 use Rattle.display.specs.Fields.{field_of, argument_of}
@@ -63,7 +61,7 @@ module _ (clock : ℕ) (read : ℕ → ℕ → Answer (List ℕ)) where
       → shown_by clock read arguments parts ≡ given marks
       → shown_by clock read arguments (parts ++ later) ≡ preceded marks (shown_by clock read (drop (3 * numbers_in parts) arguments) later)
   unfolding shown_by
-  shown arguments [] later marks e = preceded_none (shown_by clock read arguments later) ∙ ap (λ (m : List Mark). preceded m (shown_by clock read arguments later)) {x = []} cc
+  shown arguments [] later marks e = preceded_none (shown_by clock read arguments later) ∙ ap (λ (m : List Mark). preceded m (shown_by clock read arguments later)) {x = []} {y = marks} (cc e)
   shown arguments (letter b ∷ parts) later marks e =
       behind_text (character b ∷ []) (shown_by clock read arguments parts) _ (shown_by clock read (drop (3 * numbers_in parts) arguments) later) marks (λ rest f. shown arguments parts later rest f) e
   shown arguments (line_break ∷ parts) later marks e =

@@ -2,10 +2,14 @@
 use mathlib.Core.Path.{◌≡◌, refl, sym, ap, ◌∙◌}
 use mathlib.Core.Bool.{Bool, true, false}
 use mathlib.Core.List.{List, [], ◌∷◌, ◌++◌}
-use Prim.Native.Nat.{ℕ, ◌+◌, ◌≤◌}
+use Prim.Native.Nat.{ℕ, zero, suc, ◌+◌, ◌*◌, ◌/◌, ◌^◌, ◌≤◌, ◌<◌}
+use native.Mathlib.Nat.{pow-suc}
 use native.Mathlib.Omega.{arith}
+use borrow.Author.Rules.{rules}
+use borrow.Author.Tests.{lt-ltb, le-ltb}
+use mir.Val.{bool_byte}
 use lib.ListN.{length, length-replicate, length-append}
-use Rattle.laws.specs.Decimals.{decimal_of}
+use Rattle.laws.specs.Decimals.{digit, decimal_in, decimal_of}
 use Rattle.laws.proofs.Digits.{last_length}
 use Rattle.laws.proofs.If.{if_cases}
 use Rattle.readout.specs.Numbers.{sign_text, pointed, text_of}
@@ -47,7 +51,24 @@ text_length f v =
     length-append (sign_text v.minus) (decimal_of (whole_shown f v.size) ++ pointed (fraction_shown f v.size))
     ∙ ap (λ (n : ℕ). length (sign_text v.minus) + n) (length-append (decimal_of (whole_shown f v.size)) (pointed (fraction_shown f v.size)))
 
+-- the code counts the letters of a sign
+pub sign_bytes : (minus : Bool) → bool_byte minus ≡ length (sign_text minus)
+sign_bytes true = refl
+sign_bytes false = refl
+
 -- a sign is one letter at most
 pub sign_most : (minus : Bool) → length (sign_text minus) ≤ 1
 sign_most true = omega arith
 sign_most false = omega arith
+
+-- a number from ten to the k on, and below the next power, has a digit more
+pub digits_at : (k n places : ℕ) → 10 ^ k ≤ n → n < 10 * 10 ^ k → k < places → length (decimal_in places n) ≡ k + 1
+unfolding decimal_in
+digits_at k n zero low high few = absurd (omega arith)
+digits_at zero n (suc places) low high few = rw (lt-ltb n 10 (omega arith))
+digits_at (suc k) n (suc places) low high few =
+    let p = pow-suc 10 k in
+    let some : 1 ≤ 10 ^ k = search rules in
+    let shorter = digits_at k (n / 10) places (omega arith) (omega arith) (omega arith) in
+    let app = length-append (decimal_in places (n / 10)) (digit n ∷ []) in
+    rw (le-ltb n 10 (omega arith)) (omega arith)

@@ -1,30 +1,28 @@
 -- Laws of the two steps (specs/Steps.antt): what a format string comes to from a place on, by what stands there.
-use Rattle.std.specs.Prelude.{if◌then◌else◌}
 use mathlib.Core.Path.{◌≡◌, refl, sym, ap, ◌∙◌}
-use mathlib.Core.Bool.{true, false, true≢false}
+use mathlib.Core.Bool.{Bool, true, false, ◌&&◌}
 use mathlib.Core.List.{List, [], ◌∷◌}
 use Prim.Native.Nat.{ℕ, zero, suc, ◌+◌, ◌-◌, ◌≤◌, ◌<◌}
 use native.Mathlib.Omega.{arith}
-use borrow.Author.Tests.{ne_eqb, lt-ltb, le-ltb, ltb-false}
-use lib.Dec.{ltb}
-use lib.ListN.{length, get_or, drop, drop_of_length-le, length-drop}
-use lib.Seq.{drop-drop}
-use native.Mathlib.Nat.{add_assoc}
+use borrow.Author.Tests.{eq-eqb, ne_eqb, eqb-true, eqb-false, lt-ltb, le-ltb, ltb-false}
+use lib.Dec.{eqb, ltb}
+use lib.ListN.{length, get_or, take, drop, length-drop}
+use Rattle.std.specs.List.{starts_with}
+use Rattle.std.proofs.lemmas.List.{take_all}
 use Rattle.laws.specs.Answers.{Answer, given, refused, number_in}
-use Rattle.laws.proofs.Suffixes.{from_letter}
-use Rattle.laws.proofs.Tests.{by_test}
+use Rattle.laws.proofs.Tests.{by_test, and_left}
 use Rattle.registers.specs.Registers.{refusal, register_read}
-use Rattle.registers.proofs.Groups.{is_given_lem, the}
 use Rattle.calendar.specs.Moments.{moment_of}
 use Rattle.recorder.specs.declared.Recorder.{Recorder}
 use Rattle.display.specs.Formats.{FormatPart, letter, line_break, the_date, the_time, number, bad_format, begun, is_break, specification_in, first_part, parts_behind, meaning}
 use Rattle.display.specs.Fields.{read_by, argument_of}
 use Rattle.display.specs.Numbers.{date_shown, time_shown, number_shown}
 use Rattle.display.specs.Displays.{Mark, character, new_line, characters, preceded, shown_by, displayed, display_with, display_reply}
-use Rattle.display.specs.Steps.{blank_screen, put_of, puts_of, next_line, text_put, written_on, cells_of, parts_on, page_from, page_behind}
+use Rattle.display.specs.Steps.{blank_screen, put_of, puts_of, next_line, written_on, cells_of, parts_on, page_from, page_behind}
 use Rattle.display.specs.declared.fields.Value.{Value}
 use Rattle.display.specs.declared.formats.Form.{Form}
 use Rattle.display.specs.declared.screen.Screen.{Screen}
+use Rattle.display.proofs.Specified.{specified_most}
 use Rattle.display.proofs.Screens.{cells_after, on_characters, two_lines_lem}
 
 -- the bytes of the part before are passed over
@@ -88,85 +86,91 @@ module _ (r : Recorder) (parts : List FormatPart) (arguments : List ℕ) (s : Sc
   unfolding shown_by
   on_bad = refl
 
--- The text step at place i of a string l
+-- what is behind some bytes, as the code gives it
+pub left : (k : ℕ) (l : List ℕ) → take (length l - k) (drop k l) ≡ drop k l
+left k l = let e = length-drop k l in take_all (length l - k) (drop k l) (omega arith)
 
-module _ (r : Recorder) (l : List ℕ) (i : ℕ) (arguments : List ℕ) (s : Screen) where
-  pub text_end : length l ≤ i → page_from r (drop i l) arguments s ≡ given s.cells
+-- The text step on a string
+
+-- a break as the code asks for it
+asked : (b k : ℕ) → eqb k b ≡ eqb b k
+asked b k = by_test (eqb b k) (λ t. rw t (eq-eqb k b (sym (eqb-true b k t)))) (λ t. rw t (ne_eqb k b (λ e. eqb-false b k t (sym e))))
+
+starts_is : (l : List ℕ) → starts_with eqb l (92 ∷ 110 ∷ []) ≡ is_break l
+starts_is [] = refl
+starts_is (b ∷ []) = rw (asked b 92)
+starts_is (b ∷ c ∷ l) = rw (asked b 92, asked c 110) (ap (λ t. eqb b 92 && t) (alone (eqb c 110)))
+  where
+    alone : (t : Bool) → (t && true) ≡ t
+    alone true = refl
+    alone false = refl
+
+module _ (r : Recorder) (arguments : List ℕ) (s : Screen) where
+  pub text_end : (l : List ℕ) → length l < 1 → page_from r l arguments s ≡ given s.cells
   unfolding page_from parts_behind shown_by written_on
-  text_end h = rw (drop_of_length-le l h) refl
+  text_end [] h = refl
+  text_end (b ∷ l) h = absurd (omega arith)
 
   -- a per cent
-  pub text_percent : i < length l → get_or l i 0 ≡ 37 → page_from r (drop i l) arguments s ≡ page_behind r (drop (i + 1) l) arguments s
+  pub text_percent : (l : List ℕ) → 1 ≤ length l → get_or l 0 0 ≡ 37 → page_from r l arguments s ≡ page_behind r (drop 1 l) arguments s
   unfolding page_from page_behind
-  text_percent h e =
-      let rest = drop (i + 1) l in
-      let here : drop i l ≡ 37 ∷ rest = from_letter l i h ∙ ap (λ (b : ℕ). b ∷ rest) e in
-      ap (λ (parts : List FormatPart). parts_on r parts arguments s) (ap meaning here ∙ percent_first rest)
+  text_percent [] h e = absurd (omega arith)
+  text_percent (b ∷ l) h e = rw e (ap (λ (parts : List FormatPart). parts_on r parts arguments s) (percent_first l))
 
-  -- plain text, or a line break
-  pub text_plain : i < length l → (get_or l i 0 ≡ 37 → ⊥)
-      → page_from r (drop i l) arguments s
-      ≡ page_from r (drop (i + (if is_break (drop i l) then 2 else 1)) l) arguments (text_put s (is_break (drop i l)) (get_or l i 0))
+  -- a line break
+  pub text_break : (l : List ℕ) → starts_with eqb l (92 ∷ 110 ∷ []) ≡ true → page_from r l arguments s ≡ page_from r (drop 2 l) arguments (next_line s)
   unfolding page_from
-  text_plain h e =
-      let here = from_letter l i h in
-      by_test (is_break (drop i l))
-      (λ t.
-      rw t
-      (ap (λ (parts : List FormatPart). parts_on r parts arguments s) (ap meaning here ∙ break_first (get_or l i 0) (drop (i + 1) l) e (rw here at t))
-      ∙ on_break r (meaning (drop 1 (drop (i + 1) l))) arguments s
-      ∙ ap (λ (x : List ℕ). parts_on r (meaning x) arguments (next_line s)) (drop-drop 1 (i + 1) l ∙ rw (add_assoc i 1 1) refl)))
-      (λ t.
-      rw t
-      (ap (λ (parts : List FormatPart). parts_on r parts arguments s) (ap meaning here ∙ letter_first (get_or l i 0) (drop (i + 1) l) e (rw here at t))
-      ∙ on_letter r (meaning (drop (i + 1) l)) arguments s (get_or l i 0)))
+  text_break [] t = absurd cc
+  text_break (b ∷ l) t =
+      let broken : is_break (b ∷ l) ≡ true = sym (starts_is (b ∷ l)) ∙ t in
+      let slash : b ≡ 92 = eqb-true b 92 (and_left (eqb b 92) (eqb (get_or l 0 0) 110) broken) in
+      ap (λ (parts : List FormatPart). parts_on r parts arguments s) (break_first b l (λ e. omega arith) broken) ∙ on_break r (meaning (drop 1 l)) arguments s
 
--- The specification step at place i of a string l
+  -- plain text
+  pub text_letter : (l : List ℕ) → 1 ≤ length l → (get_or l 0 0 ≡ 37 → ⊥) → starts_with eqb l (92 ∷ 110 ∷ []) ≡ false
+      → page_from r l arguments s ≡ page_from r (drop 1 l) arguments (put_of s (get_or l 0 0))
+  unfolding page_from
+  text_letter [] h e t = absurd (omega arith)
+  text_letter (b ∷ l) h e t =
+      ap (λ (parts : List FormatPart). parts_on r parts arguments s) (letter_first b l e (sym (starts_is (b ∷ l)) ∙ t)) ∙ on_letter r (meaning l) arguments s b
+
+-- The specification step on a string
 
 -- a field that was read had three bytes
-pub three_left : (read : ℕ → ℕ → Answer (List ℕ)) (arguments : List ℕ) (used : ℕ) (v : Value) → given v ≡ argument_of read (drop used arguments) → used + 3 ≤ length arguments
+pub three_left : (read : ℕ → ℕ → Answer (List ℕ)) (arguments : List ℕ) (v : Value) → given v ≡ argument_of read arguments → 3 ≤ length arguments
 unfolding argument_of
-three_left read arguments used v e =
-    let left = length-drop used arguments in
-    by_test (ltb (length (drop used arguments)) 3)
-    (λ t. absurd (cc (rw t at e)))
-    (λ t. let l = ltb-false (length (drop used arguments)) 3 t in omega arith)
+three_left read arguments v e =
+    by_test (ltb (length arguments) 3) (λ t. absurd (cc (rw t at e))) (λ t. ltb-false (length arguments) 3 t)
 
--- the parts behind a specification
-behind : (l : List ℕ) (i n : ℕ) → parts_behind n (drop i l) ≡ meaning (drop (i + n) l)
-behind l i n = parts_drop n (drop i l) ∙ ap meaning (drop-drop n i l)
-
-module _ (r : Recorder) (l : List ℕ) (i used : ℕ) (arguments : List ℕ) (s : Screen) (n : ℕ) where
+module _ (r : Recorder) (l arguments : List ℕ) (s : Screen) (n : ℕ) where
   abbrev Found : FormatPart → Type 0
-  Found part = begun part n ≡ specification_in (drop i l)
+  Found part = begun part n ≡ specification_in l
 
-  found : (part : FormatPart) → Found part → page_behind r (drop i l) (drop used arguments) s ≡ parts_on r (part ∷ meaning (drop (i + n) l)) (drop used arguments) s
+  found : (part : FormatPart) → Found part → page_behind r l arguments s ≡ parts_on r (part ∷ meaning (drop n l)) arguments s
   unfolding page_behind
-  found part e = rw (← e) (ap (λ (parts : List FormatPart). parts_on r (part ∷ parts) (drop used arguments) s) (behind l i n))
+  found part e = rw (← e) (ap (λ (parts : List FormatPart). parts_on r (part ∷ parts) arguments s) (parts_drop n l))
 
-  pub behind_bad : Found bad_format → page_behind r (drop i l) (drop used arguments) s ≡ refused 21 0
-  behind_bad e = found bad_format e ∙ on_bad r (meaning (drop (i + n) l)) (drop used arguments) s
+  pub behind_bad : Found bad_format → page_behind r l arguments s ≡ refused 21 0
+  behind_bad e = found bad_format e ∙ on_bad r (meaning (drop n l)) arguments s
 
-  pub behind_date : Found the_date
-      → page_behind r (drop i l) (drop used arguments) s ≡ page_from r (drop (i + n) l) (drop used arguments) (puts_of s (date_shown (moment_of r.state.clock)))
+  pub behind_date : Found the_date → page_behind r l arguments s ≡ page_from r (drop n l) arguments (puts_of s (date_shown (moment_of r.state.clock)))
   unfolding page_from
-  behind_date e = found the_date e ∙ on_date_lem r (meaning (drop (i + n) l)) (drop used arguments) s
+  behind_date e = found the_date e ∙ on_date_lem r (meaning (drop n l)) arguments s
 
-  pub behind_time : Found the_time
-      → page_behind r (drop i l) (drop used arguments) s ≡ page_from r (drop (i + n) l) (drop used arguments) (puts_of s (time_shown (moment_of r.state.clock)))
+  pub behind_time : Found the_time → page_behind r l arguments s ≡ page_from r (drop n l) arguments (puts_of s (time_shown (moment_of r.state.clock)))
   unfolding page_from
-  behind_time e = found the_time e ∙ on_time r (meaning (drop (i + n) l)) (drop used arguments) s
+  behind_time e = found the_time e ∙ on_time r (meaning (drop n l)) arguments s
 
-  pub behind_none : (f : Form) → Found (number f) → refused 22 0 ≡ argument_of (read_by r) (drop used arguments) → page_behind r (drop i l) (drop used arguments) s ≡ refused 22 0
-  behind_none f e g = found (number f) e ∙ on_none r (meaning (drop (i + n) l)) (drop used arguments) s f 22 0 (sym g)
+  pub behind_none : (f : Form) → Found (number f) → refused 22 0 ≡ argument_of (read_by r) arguments → page_behind r l arguments s ≡ refused 22 0
+  behind_none f e g = found (number f) e ∙ on_none r (meaning (drop n l)) arguments s f 22 0 (sym g)
 
-  pub behind_number : (f : Form) (v : Value) → Found (number f) → given v ≡ argument_of (read_by r) (drop used arguments)
-      → page_behind r (drop i l) (drop used arguments) s ≡ page_from r (drop (i + n) l) (drop (used + 3) arguments) (puts_of s (number_shown f v))
+  pub behind_number : (f : Form) (v : Value) → Found (number f) → given v ≡ argument_of (read_by r) arguments
+      → page_behind r l arguments s ≡ page_from r (drop n l) (drop 3 arguments) (puts_of s (number_shown f v))
   unfolding page_from
-  behind_number f v e g =
-      found (number f) e
-      ∙ on_number r (meaning (drop (i + n) l)) (drop used arguments) s f v (sym g)
-      ∙ ap (λ (x : List ℕ). parts_on r (meaning (drop (i + n) l)) x (puts_of s (number_shown f v))) (drop-drop 3 used arguments)
+  behind_number f v e g = found (number f) e ∙ on_number r (meaning (drop n l)) arguments s f v (sym g)
+
+-- what the specification step asks for
+pub ruleset specified = (left, behind_date, behind_time, three_left, specified_most)
 
 -- The reply, by what the text step comes to on a blank screen
 
@@ -191,3 +195,6 @@ module _ (r : Recorder) (format arguments buffer : List ℕ) where
     pub reply_refused : (n : ℕ) → refused n 0 ≡ page_from r format arguments blank_screen → refusal n buffer ≡ display_reply r format arguments buffer
     unfolding display_with page_from
     reply_refused n e = rw (le-ltb (length buffer) 32 room) (refused_cells (shown_by r.state.clock (read_by r) arguments (meaning format)) n buffer e)
+
+-- what a display asks for
+pub ruleset replies = (reply_13, reply_shown, reply_refused)

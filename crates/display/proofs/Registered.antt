@@ -1,9 +1,11 @@
 -- Laws of the fields of registers (specs/Fields.antt): they lie within the bytes that a register request gives.
 use mathlib.Core.Path.{◌≡◌, refl, sym, ap, ◌∙◌}
-use mathlib.Core.Bool.{Bool, true, false, true≢false, ◌&&◌}
+use mathlib.Core.Bool.{Bool, true, false, ◌&&◌}
 use mathlib.Core.List.{List, [], ◌∷◌, ◌++◌}
 use Prim.Native.Nat.{ℕ, zero, suc, ◌+◌, ◌^◌, ◌≤◌, ◌<◌}
 use native.Mathlib.Nat.{not-suc-le-zero}
+use native.Mathlib.Numerals.{add-one}
+use Rattle.std.proofs.lemmas.List.Sums.{sum_by_more}
 use native.Mathlib.Omega.{arith}
 use borrow.Author.Tests.{eqb-true, ne_eqb, leb-true, ltb-true, ltb-false}
 use lib.Dec.{eqb, leb, ltb}
@@ -12,20 +14,19 @@ use lib.Seq.{get_or-drop, drop-append-add}
 use Rattle.laws.specs.Answers.{given, refused}
 use Rattle.laws.specs.Bytes.{bytes_of, le}
 use Rattle.laws.specs.Each.{Each}
-use Rattle.laws.specs.Tables.{table}
 use Rattle.laws.specs.Total.{total}
 use Rattle.laws.proofs.Answers.{by_answer}
 use Rattle.laws.proofs.Bytes.{length_bytes_of, le_bytes_of, le_take}
 use Rattle.laws.proofs.If.{if_cases}
-use Rattle.laws.proofs.Tables.{table_at}
 use Rattle.laws.proofs.Tests.{by_test, and_left, and_right}
-use Rattle.laws.proofs.Total.{total_more, total_cong, total_grows, total_first}
+use Rattle.laws.proofs.Total.{total_more, total_grows, total_first}
 use Rattle.recorder.specs.declared.Recorder.{Recorder}
 use Rattle.registers.specs.Registers.{Group, groups, look_up, group_of, RegisterReply, register_said, replied, register_reply}
 use Rattle.registers.specs.declared.RegisterError.{RegisterError}
 use Rattle.registers.specs.declared.RegisterError.TheVariants.{NoGroup, NoRegister, NotFitted, NoRoom}
-use Rattle.std.specs.Prelude.{Result, Ok, Err}
-use Rattle.registers.proofs.Groups.{is_given_lem, the, each_found}
+use Rattle.std.specs.Prelude.{Some, None, Result, Ok, Err, sum}
+use Rattle.std.specs.Result.{result_ok}
+use Rattle.registers.proofs.Groups.{each_found}
 use Rattle.registers.proofs.Laws.{held_long, given_first}
 use Rattle.display.specs.Fields.{field_bytes, is_signed, start_of, signed_value, field_given, field_of, bytes_given, read_by}
 use Rattle.display.specs.Laws.{one_after_another, FieldsInOrder}
@@ -77,10 +78,8 @@ all_sized group =
     (λ t. if_cases P (eqb group 203) (λ t. refl) (λ t. if_cases P (eqb group 204) (λ t. refl) (λ t. if_cases P (eqb group 206) (λ t. refl) (λ t. refl)))))))))
 
 -- no register has a seventh field
-pub no_seventh : (group k : ℕ) → 6 ≤ k → widths group k ≡ 0
-no_seventh group k h =
-    let six = leb-true (length (field_bytes group)) 6 (and_left (leb (length (field_bytes group)) 6) (sized (field_bytes group)) (all_sized group)) in
-    get_or-eq_default (field_bytes group) 0 (omega arith)
+pub six_fields : (group : ℕ) → length (field_bytes group) ≤ 6
+six_fields group = leb-true (length (field_bytes group)) 6 (and_left (leb (length (field_bytes group)) 6) (sized (field_bytes group)) (all_sized group))
 
 -- a field that is there has 1 to 8 bytes
 sized_at : (l : List ℕ) → sized l ≡ true → (k : ℕ) → k < length l → (1 ≤ get_or l k 0) × (get_or l k 0 ≤ 8)
@@ -89,7 +88,7 @@ sized_at (n ∷ l) h zero low =
     (leb-true 1 n (and_left (leb 1 n) (leb n 8 && sized l) h), leb-true n 8 (and_left (leb n 8) (sized l) (and_right (leb 1 n) (leb n 8 && sized l) h)))
 sized_at (n ∷ l) h (suc k) low = sized_at l (and_right (leb n 8) (sized l) (and_right (leb 1 n) (leb n 8 && sized l) h)) k (omega arith)
 
-field_sized : (group k : ℕ) → k < length (field_bytes group) → (1 ≤ widths group k) × (widths group k ≤ 8)
+pub field_sized : (group k : ℕ) → k < length (field_bytes group) → (1 ≤ widths group k) × (widths group k ≤ 8)
 field_sized group k low =
     sized_at (field_bytes group) (and_right (leb (length (field_bytes group)) 6) (sized (field_bytes group)) (all_sized group)) k low
 
@@ -137,19 +136,20 @@ module _ (r : Recorder) (group register : ℕ) (buffer : List ℕ) (m : ℕ) (e 
   given_room = (given_first r group register buffer m e).1
 
 -- where it is not, there is no field
-not_given : (x : Result ℕ RegisterError) → ((n : ℕ) → x ≡ Ok n → ⊥) → (group field : ℕ) (bytes : List ℕ)
+not_given : (x : Result ℕ RegisterError) → None ≡ result_ok x → (group field : ℕ) (bytes : List ℕ)
     → field_given group field (bytes_given (register_said x) bytes) ≡ refused 22 0
-not_given (Ok n) k group field bytes = absurd (k n refl)
+not_given (Ok n) k group field bytes = absurd cc
 not_given (Err NoGroup) k group field bytes = refl
 not_given (Err NoRegister) k group field bytes = refl
 not_given (Err NotFitted) k group field bytes = refl
 not_given (Err NoRoom) k group field bytes = refl
 
--- a field past the last, and one of no bytes, is none
-no_field : (group field m : ℕ) (bytes : List ℕ) → widths group field ≡ 0 → field_given group field (given (take m bytes)) ≡ refused 22 0
-no_field group field m bytes e = rw e refl
+-- what was given
+was_ok : (x : Result ℕ RegisterError) (m : ℕ) → Some m ≡ result_ok x → x ≡ Ok m
+was_ok (Ok n) m k = cc
+was_ok (Err error) m k = absurd cc
 
--- any other is the number that its bytes are
+-- a field of some bytes is the number that they are
 a_field : (group field m : ℕ) (bytes : List ℕ) → (widths group field ≡ 0 → ⊥) → start_of group field + widths group field ≤ m
     → field_given group field (given (take m bytes)) ≡ given (signed_value (is_signed group field) (widths group field) (le (widths group field) (drop (start_of group field) bytes)))
 a_field group field m bytes some within = rw (ne_eqb (widths group field) 0 some, le_take (widths group field) (start_of group field) m bytes within) refl
@@ -161,18 +161,15 @@ module _ (r : Recorder) (group register : ℕ) (x : Result ℕ RegisterError) (b
   unfolding read_by
   read_as = ap (λ (y : RegisterReply). bytes_given y.answer y.buffer) (sym e)
 
-  pub field_refused : ((n : ℕ) → x ≡ Ok n → ⊥) → refused 22 0 ≡ field_of (read_by r) group register field
+  pub field_refused : None ≡ result_ok x → refused 22 0 ≡ field_of (read_by r) group register field
   field_refused k = sym (ap (field_given group field) read_as ∙ not_given x k group field bytes)
 
-  module _ (m : ℕ) (g : x ≡ Ok m) where
+  module _ (m : ℕ) (g : Some m ≡ result_ok x) where
     was_given : (register_reply r group register (replicate 13 0)).answer ≡ given m
-    was_given = sym (ap (λ (y : RegisterReply). y.answer) e) ∙ ap register_said g
+    was_given = sym (ap (λ (y : RegisterReply). y.answer) e) ∙ ap register_said (was_ok x m g)
 
     given_as : read_by r group register ≡ given (take m bytes)
-    given_as = read_as ∙ ap (λ (y : Result ℕ RegisterError). bytes_given (register_said y) bytes) g
-
-    pub field_none : widths group field ≡ 0 → refused 22 0 ≡ field_of (read_by r) group register field
-    field_none none = sym (ap (field_given group field) given_as ∙ no_field group field m bytes none)
+    given_as = read_as ∙ ap (λ (y : Result ℕ RegisterError). bytes_given (register_said y) bytes) (was_ok x m g)
 
     pub field_fits : field < 6 → start_of group field + widths group field ≤ 13
     field_fits low =
@@ -185,14 +182,11 @@ module _ (r : Recorder) (group register : ℕ) (x : Result ℕ RegisterError) (b
     field_some low some =
         sym (ap (field_given group field) given_as ∙ a_field group field m bytes some (field_within r group register (replicate 13 0) m was_given field low))
 
--- Fields by the code's table of a group
-
--- where a field begins, and how many bytes it has
-pub start_by_table : (group k : ℕ) → k < 6 → total k (λ j. get_or (table 6 (λ i. widths group i)) j 0) ≡ start_of group k
-start_by_table group k low = total_cong k (λ j. get_or (table 6 (λ i. widths group i)) j 0) (widths group) (λ j l. table_at 6 (λ i. widths group i) j 0 (omega arith))
-
-pub bytes_by_table : (group k : ℕ) → k < 6 → get_or (table 6 (λ i. widths group i)) k 0 ≡ widths group k
-bytes_by_table group k low = table_at 6 (λ i. widths group i) k 0 low
+-- where a field begins, as the code adds it up
+pub widths_before : (l : List ℕ) (k : ℕ) → k ≤ length l → sum (take k l) ≡ total k (λ j. get_or l j 0)
+unfolding total
+widths_before l zero h = refl
+widths_before l (suc k) h = rw (← add-one k) (sum_by_more (λ x. x) l k 0 h ∙ ap (λ n. n + get_or l k 0) (widths_before l k (omega arith)))
 
 -- Fields in order
 

@@ -2,13 +2,14 @@
 use Rattle.std.specs.Prelude.{if◌then◌else◌}
 use mathlib.Core.Path.{◌≡◌, refl, sym, ap, ◌∙◌}
 use mathlib.Core.List.{List, [], ◌∷◌, ◌++◌}
-use Prim.Native.Nat.{ℕ, suc, ◌+◌, ◌-◌, ◌≤◌, ◌<◌}
+use Prim.Native.Nat.{ℕ, zero, suc, ◌+◌, ◌-◌, ◌/◌, ◌≤◌, ◌<◌}
 use native.Mathlib.Omega.{arith}
 use borrow.Author.Tests.{lt-ltb, le-ltb, ltb-true, ltb-false, lt-leb, le-leb}
 use native.Mathlib.Nat.{sub-zero}
 use lib.Dec.{ltb, leb}
 use lib.ListN.{length, get_or, set, replicate, length-set, get_or-replicate}
 use lib.Seq.{get_or-set_same, get_or-set_other}
+use Rattle.laws.specs.Decimals.{digit, last_digits}
 use Rattle.laws.specs.Answers.{Answer, given, refused}
 use Rattle.laws.specs.Tables.{table}
 use Rattle.laws.proofs.If.{if_cases}
@@ -23,6 +24,12 @@ pub puts_split : (s : Screen) (a b : List ℕ) → puts_of s (a ++ b) ≡ puts_o
 unfolding puts_of
 puts_split s [] b = refl
 puts_split s (x ∷ a) b = puts_split (put_of s x) a b
+
+-- one digit more
+pub one_more : (s : Screen) (k n : ℕ) → (k ≡ 0 → ⊥) → put_of (puts_of s (last_digits (k - 1) (n / 10))) (digit n) ≡ puts_of s (last_digits k n)
+unfolding last_digits puts_of
+one_more s zero n h = absurd (h refl)
+one_more s (suc k) n h = let e : suc k - 1 ≡ k = omega arith in rw e (sym (puts_split s (last_digits k (n / 10)) (digit n ∷ [])))
 
 -- one of the same characters less is left, and none
 module _ (s : Screen) (byte count k : ℕ) where

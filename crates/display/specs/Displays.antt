@@ -73,12 +73,16 @@ display_with clock read format arguments buffer =
 abbrev pub display_reply : Recorder → List ℕ → List ℕ → List ℕ → RegisterReply
 display_reply r format arguments buffer = display_with r.state.clock (read_by r) format arguments buffer
 
+-- document 02's number of a refusal
+abbrev pub error_number : DisplayError → ℕ
+error_number NoRoom = 13
+error_number Format = 21
+error_number Argument = 22
+
 -- what the code's answer says: 32 bytes were given, or document 02's number
 abbrev pub display_said : Result (Unit {0}) DisplayError → Answer ℕ
 display_said (Ok u) = given 32
-display_said (Err NoRoom) = refused 13 0
-display_said (Err Format) = refused 21 0
-display_said (Err Argument) = refused 22 0
+display_said (Err error) = refused (error_number error) 0
 
 -- the code's answer with the buffer after the call
 abbrev pub display_replied : Result (Unit {0}) DisplayError → List ℕ → RegisterReply

@@ -1,15 +1,11 @@
 -- What only the code has: the screen on which it writes, character by character, and what its private answers say.
-use Rattle.std.specs.Prelude.{Bool, List, [], ◌∷◌, ℕ, ◌+◌, leb, replicate, set, if◌then◌else◌}
+use Rattle.std.specs.Prelude.{Bool, List, [], ◌∷◌, ℕ, ◌+◌, leb, replicate, set, if◌then◌else◌, Option, Some, None, Result, Ok, Err}
 use Rattle.laws.specs.Answers.{Answer, given, refused}
 use Rattle.recorder.specs.declared.Recorder.{Recorder}
-use Rattle.display.specs.Formats.{FormatPart, the_date, the_time, number, bad_format, Begun, meaning, parts_behind, specification_in}
+use Rattle.display.specs.Formats.{FormatPart, the_date, the_time, number, Begun, begun, bad_in, meaning, parts_behind, specification_in}
 use Rattle.display.specs.Fields.{read_by}
-use Rattle.display.specs.Displays.{Mark, character, new_line, shown_by}
-use Rattle.display.specs.declared.Outcome.TheVariants as outcome
-use Rattle.display.specs.declared.Page.{Page}
-use Rattle.display.specs.declared.Outcome.{Outcome}
-use Rattle.display.specs.declared.fields.FieldAnswer.{FieldAnswer}
-use Rattle.display.specs.declared.fields.FieldAnswer.TheVariants as field
+use Rattle.display.specs.Displays.{Mark, character, new_line, shown_by, error_number}
+use Rattle.display.specs.declared.DisplayError.{DisplayError}
 use Rattle.display.specs.declared.fields.Value.{Value}
 use Rattle.display.specs.declared.formats.Kind.{Kind}
 use Rattle.display.specs.declared.formats.Kind.TheVariants as kind
@@ -63,28 +59,23 @@ page_from r format arguments s = parts_on r (meaning format) arguments s
 unfoldable pub page_behind : Recorder → List ℕ → List ℕ → Screen → Answer (List ℕ)
 page_behind r format arguments s = let first = specification_in format in parts_on r (first.part ∷ parts_behind first.bytes format) arguments s
 
--- what became of a string: its 32 characters, or the refusal
-abbrev pub outcome_said : Outcome → List ℕ → Answer (List ℕ)
-outcome_said outcome.Whole cells = given cells
-outcome_said outcome.Format cells = refused 21 0
-outcome_said outcome.Argument cells = refused 22 0
-
--- what a page says
-abbrev pub page_said : Page → Answer (List ℕ)
-page_said page = outcome_said page.outcome page.cells
+-- what a step came to: the 32 characters, or the refusal
+abbrev pub page_said : Result Screen DisplayError → Answer (List ℕ)
+page_said (Ok shown) = given shown.cells
+page_said (Err error) = refused (error_number error) 0
 
 -- what the code's answer to an argument says
-abbrev pub field_said : FieldAnswer → Answer Value
-field_said (field.Is value) = given value
-field_said field.Argument = refused 22 0
+abbrev pub field_said : Option Value → Answer Value
+field_said (Some value) = given value
+field_said None = refused 22 0
 
 -- the part that a specification of the code is
 abbrev pub kind_said : Kind → FormatPart
 kind_said kind.Date = the_date
 kind_said kind.Time = the_time
 kind_said (kind.Number form) = number form
-kind_said kind.Bad = bad_format
 
--- and how many bytes it has
-abbrev pub specification_said : Specification → Begun
-specification_said r = record { part = kind_said r.kind; bytes = r.bytes }
+-- and how many bytes it has; where the code finds none, the string has a bad one
+abbrev pub specification_said : List ℕ → Option Specification → Begun
+specification_said s (Some found) = begun (kind_said found.kind) found.bytes
+specification_said s None = bad_in s

@@ -10,43 +10,43 @@ pub(crate) struct Screen {
     pub cells: [u8; 32],
 }
 
-pub(crate) fn blank() -> Screen
-    ensures { result ≡ blank_screen }
-{
-    let cells = [b' '; 32];
-    Screen {
-        at: 0,
-        end: 16,
-        cells,
+impl Screen {
+    pub(crate) fn blank() -> Screen
+        ensures { result ≡ blank_screen }
+    {
+        Screen {
+            at: 0,
+            end: 16,
+            cells: [b' '; 32],
+        }
     }
-}
 
-// One character more. Past the sixteenth of its line, and past the second line, it is dropped.
-pub(crate) fn put(screen: Screen, byte: u8) -> Screen
-    ensures { result ≡ put_of screen byte }
-{
-    let at = screen.at;
-    if screen.end <= at {
-        return screen;
+    // One character more. Past the sixteenth of its line, and past the second line, it is dropped.
+    #[tactic(auto, unfolding(crate::specs::Steps::put_of))]
+    pub(crate) fn put(self, byte: u8) -> Screen
+        ensures { result ≡ put_of self byte }
+    {
+        let at = self.at;
+        if self.end <= at || 32 <= at {
+            return self;
+        }
+        let mut cells = self.cells;
+        cells[at] = byte;
+        Screen {
+            at: at + 1,
+            cells,
+            ..self
+        }
     }
-    if 32 <= at {
-        return screen;
-    }
-    let mut cells = screen.cells;
-    cells[at] = byte;
-    Screen {
-        at: at + 1,
-        end: screen.end,
-        cells,
-    }
-}
 
-// The second line begins where the first ends; behind the second there is no room.
-pub(crate) fn next_line(screen: Screen) -> Screen
-    ensures { result ≡ next_line screen }
-{
-    let mut next = screen;
-    next.at = screen.end;
-    next.end = 32;
-    next
+    // The second line begins where the first ends; behind the second there is no room.
+    pub(crate) fn next_line(self) -> Screen
+        ensures { result ≡ next_line self }
+    {
+        Screen {
+            at: self.end,
+            end: 32,
+            ..self
+        }
+    }
 }

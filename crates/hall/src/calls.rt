@@ -67,7 +67,7 @@ impl<'a> Hall<'a> {
         answers::ok()
     }
 
-    // A maker's list, for the next start.
+    // A maker's list, for the next start. `Masks` has the fields of `MakerList` once more, since crate lines stands on laws alone.
     fn list(&mut self, maker: u8, masks: Masks) -> Text {
         let list = MakerList {
             meters: masks.meters,
@@ -85,7 +85,7 @@ impl<'a> Hall<'a> {
         answers::start_line(start.answer)
     }
 
-    // In pieces of 512, to the first refusal.
+    // In pieces of 512, to the first refusal: a call for each sample is a hundred times slower. The last piece is shorter, so what is left is counted.
     fn sample(&mut self, bits: u16, count: u32) -> Text {
         let piece = [bits; 512];
         let mut left = count;

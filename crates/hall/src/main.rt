@@ -75,7 +75,8 @@ fn cannot_be_read(rt: &impl Print) -> io::Result<()> {
     rt.write_all(b"error: the image cannot be read\n")
 }
 
-// One byte more than an image has is read, so that a longer file is told from an image; a shorter one is none, whatever it has. A path that is not UTF-8 names no file here.
+// One byte more than an image has is read, so that a longer file is told from an image; a shorter one is none, whatever it has.
+// As in image_tester: a library could promise nothing of what is read. A path that is not UTF-8 names no file here.
 fn with_image(rt: &(impl Files + Input + Print), path: &[u8]) -> io::Result<()> {
     let Ok(name) = str::from_utf8(path) else {
         return cannot_be_read(rt);
@@ -91,7 +92,7 @@ fn with_image(rt: &(impl Files + Input + Print), path: &[u8]) -> io::Result<()> 
     run(rt, &image[..n])
 }
 
-// Whether the program was given an argument of this number.
+// Whether the program was given an argument of this number. In bench, too: nothing says which arguments there are, so a library could promise nothing of it.
 fn is_given(rt: &impl Env, number: usize) -> bool {
     !matches!(rt.arg(number, &mut []), Err(FillError::NotPresent))
 }

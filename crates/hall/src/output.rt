@@ -24,13 +24,13 @@ impl<'a, R: Print> Output<'a, R> {
         Ok(())
     }
 
+    // A text has at most 256 letters, so there is room for it in what was flushed.
     pub(crate) fn put(&mut self, text: Text) -> io::Result<()> {
-        for letter in &text.bytes[..text.length.min(256)] {
-            if self.kept.is_full() {
-                self.flush()?;
-            }
-            let _ = self.kept.try_push(*letter);
+        let letters = &text.bytes[..text.length.min(256)];
+        if self.kept.remaining_capacity() < letters.len() {
+            self.flush()?;
         }
+        let _ = self.kept.try_extend_from_slice(letters);
         Ok(())
     }
 }

@@ -16,7 +16,7 @@ use Rattle.laws.specs.Bytes.{le}
 use Rattle.laws.proofs.Bytes.{le_2}
 use Rattle.image.specs.Image.{encode, decode}
 use Rattle.settings.specs.Check.{checked}
-use Rattle.image.specs.Answers.{image_said, marked, image_answer, or_refused, write_answer, after_write}
+use Rattle.image.specs.Answers.{image_said, marked, image_answer, image_read, image_config, or_refused, write_answer, after_write}
 use Rattle.settings.specs.declared.Config.{Config}
 use Rattle.image.specs.declared.ImageError.{ImageError}
 use Rattle.image.specs.declared.ImageError.TheVariants as image
@@ -107,3 +107,14 @@ module _ {A : Type 0} (x : A) where
   pub given_by : (a : Answer (Unit {0})) (y : A) → given y ≡ or_refused a x → (a ≡ given tt) × (y ≡ x)
   given_by (given u) y h = (refl, cc)
   given_by (refused n o) y h = cc
+
+module _ (b : List ℕ) where
+  -- a configuration that was read is that of an accepted image
+  pub read_given : {c : Config} → given c ≡ image_read b → (image_answer b ≡ given tt) × (c ≡ image_config b)
+  unfolding image_read image_config
+  read_given {c} r = let p = given_by (decode b) (image_answer b) c r in (p.0, p.1 ∙ rw p.0)
+
+  -- and a refusal of reading is that of the check
+  pub read_refused : (e : ImageError) → image_said {A = Config} (Err e) ≡ image_read b → image_said {A = Unit {0}} (Err e) ≡ image_answer b
+  unfolding image_read
+  read_refused e h = refused_by (decode b) (image_answer b) e h

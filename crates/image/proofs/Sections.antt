@@ -8,8 +8,8 @@ use borrow.Author.Tests.{ltb-true, ltb-false}
 use lib.Dec.{ltb}
 use borrow.Rule.Slice.PartMut.{put_mid}
 use denote.Param.Members.{Mut, Called}
-use lib.ListN.{length, take, drop, get_or, length-drop, length-append}
-use lib.Seq.{take-suc, take_all, take_at, drop_at, drop-drop}
+use lib.ListN.{length, take, drop, get_or, length-drop, length-append, take-append-drop}
+use lib.Seq.{take-suc, take_all, take_at, drop_at, drop-drop, length-take-le}
 use Rattle.std.proofs.lemmas.List.{drop_all}
 use Rattle.std.specs.Array.{IsFromFnResult, IsFromFnResultFrom}
 use Rattle.laws.specs.Runs.{joined, entries}
@@ -48,14 +48,18 @@ module _ {A : Type 0} (dec : List ℕ → A) (size : ℕ) (b : List ℕ) (r : Li
   pub all_read : r ≡ entries dec size n b
   all_read = sym (take_all n r (omega (arith, long))) ∙ first_read n (omega arith)
 
--- bytes l in which the first n of l₀ are written anew, as x
+-- bytes l in which the first n of l₀ stand anew, as x
 pub record Begun (l₀ l x : List ℕ) (n : ℕ) : Type 0 where
   pub wide : length x ≡ n
   pub is : l ≡ x ++ drop n l₀
 
--- nothing is written
+-- nothing is written anew
 pub not_begun : (l : List ℕ) → Begun l l [] 0
 not_begun l = record { wide = refl; is = refl }
+
+-- the first n as they were
+pub begun_with : (l : List ℕ) (n : ℕ) → n ≤ length l → Begun l l (take n l) n
+begun_with l n h = record { wide = length-take-le n l h; is = sym (take-append-drop n l) }
 
 module _ {l₀ l x : List ℕ} {n : ℕ} (b : Begun l₀ l x n) where
   before : take n l ≡ x
@@ -63,6 +67,13 @@ module _ {l₀ l x : List ℕ} {n : ℕ} (b : Begun l₀ l x n) where
 
   behind : drop n l ≡ drop n l₀
   behind = rw b.is (drop_at x (drop n l₀) n b.wide)
+
+  -- the bytes y follow
+  pub followed : (y : List ℕ) (k : ℕ) → length y ≡ k → {l' : List ℕ} → l' ≡ take n l ++ (y ++ drop (n + k) l) → Begun l₀ l' (x ++ y) (n + k)
+  followed y k e f = record {
+    wide = rw (length-append, b.wide, e);
+    is = rw (f, before, ← drop-drop k n l, behind, drop-drop, append_assoc);
+  }
 
   -- the bytes y of the part that begins there
   pub more : (y : List ℕ) (k : ℕ) → length y ≡ k → Begun l₀ (put_mid n k l y) (x ++ y) (n + k)

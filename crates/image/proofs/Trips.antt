@@ -10,13 +10,13 @@ use Rattle.laws.proofs.Tests.{by_test}
 use Rattle.laws.specs.Broken.{first_broken}
 use Rattle.laws.specs.Answers.{Answer, given, refused}
 use Rattle.laws.specs.Bytes.{Bytes}
-use Rattle.image.specs.Image.{encode, decode, Counted, Typed}
+use Rattle.image.specs.Image.{encode, Counted, Typed}
 use Rattle.settings.specs.Check.{Section, or_else, sections, first_bad, checked}
-use Rattle.image.specs.Answers.{write_said, image_answer, image_read, image_config, write_answer, after_write, come_back, image_copy}
+use Rattle.image.specs.Answers.{write_said, image_read, image_config, write_answer, after_write, come_back, image_copy}
 use Rattle.settings.specs.declared.Config.{Config}
 use Rattle.image.specs.declared.WriteError.{WriteError}
 use Rattle.image.specs.declared.WriteError.TheVariants.{Value, NoRoom}
-use Rattle.image.proofs.Answers.{given_by}
+use Rattle.image.proofs.Answers.{read_given}
 use Rattle.image.proofs.Laws.{never, written_is_read, read_is_written, read_is_good}
 
 -- zeros, as many as an image has bytes
@@ -63,13 +63,9 @@ module _ (c : Config) where
       rw (whole, w.0, e, back)
 
 module _ (b : List ℕ) {c : Config} (r : given c ≡ image_read b) where
-  read_is : (image_answer b ≡ given tt) × (c ≡ image_config b)
-  unfolding image_read image_config
-  read_is = let p = given_by (decode b) (image_answer b) c r in (p.0, p.1 ∙ rw p.0)
-
   -- what was read breaks no rule
   good : checked c ≡ given tt
-  good = let p = read_is in ap checked p.1 ∙ read_is_good b p.0
+  good = let p = read_given b r in ap checked p.1 ∙ read_is_good b p.0
 
   -- so it is written
   pub written : (w : Result (Unit {0}) WriteError) → write_said w ≡ write_answer c 1126 → IsOk w
@@ -81,6 +77,6 @@ module _ (b : List ℕ) {c : Config} (r : given c ≡ image_read b) where
   pub copy_is : Bytes b → {l : List ℕ} → l ≡ after_write c zeros → given l ≡ image_copy b
   unfolding after_write image_copy
   copy_is byte {l} g =
-      let p = read_is in
+      let p = read_given b r in
       let same : encode c ≡ b = ap encode p.1 ∙ read_is_written b byte p.0 in
       rw p.0 (ap given ((rw (with_room c, good) at g) ∙ append-nil (encode c) ∙ same))

@@ -1,6 +1,8 @@
 -- No second result fits the contract of a public function of the image, and no second buffer that of writing.
 use mathlib.Core.Path.{◌≡◌, refl, sym, ap, ◌∙◌}
-use Rattle.std.specs.Prelude.{Result, Ok, Err}
+use lib.Dec.{eqb}
+use Rattle.std.specs.Prelude.{Result, Ok, Err, if◌then◌else◌}
+use Rattle.laws.specs.Answers.{Answer, given, refused}
 use Rattle.laws.specs.Unique.{OneResult, OneExit}
 use Rattle.image.specs.Answers.{image_said, write_said}
 use Rattle.image.specs.declared.ImageError.{ImageError}
@@ -14,43 +16,32 @@ use Rattle.image.proofs.write_image.Reads as write_image_reads
 use Rattle.image.proofs.write_then_read.Reads as write_then_read_reads
 use Rattle.image.proofs.read_then_write.Reads as read_then_write_reads
 
+-- the result that said this
+unsaid : {A : Type 0} → Answer A → Result A ImageError
+unsaid (given x) = Ok x
+unsaid (refused n o) = Err (if eqb n 1 then image.Length else if eqb n 2 then image.Mark else if eqb n 3 then image.Version else image.Value o)
+
 -- document 01's number and offset tell all answers to an image apart, whatever is asked for
 pub image_apart : {A : Type 0} (x y : Result A ImageError) → image_said x ≡ image_said y → x ≡ y
-image_apart (Ok x) (Ok y) e = let g : x ≡ y = cc in ap Ok g
-image_apart (Ok x) (Err image.Length) e = cc
-image_apart (Err image.Length) (Ok y) e = cc
-image_apart (Ok x) (Err image.Mark) e = cc
-image_apart (Err image.Mark) (Ok y) e = cc
-image_apart (Ok x) (Err image.Version) e = cc
-image_apart (Err image.Version) (Ok y) e = cc
-image_apart (Ok x) (Err (image.Value o)) e = cc
-image_apart (Err (image.Value o)) (Ok y) e = cc
-image_apart (Err image.Length) (Err image.Length) e = cc
-image_apart (Err image.Length) (Err image.Mark) e = cc
-image_apart (Err image.Length) (Err image.Version) e = cc
-image_apart (Err image.Length) (Err (image.Value p)) e = cc
-image_apart (Err image.Mark) (Err image.Length) e = cc
-image_apart (Err image.Mark) (Err image.Mark) e = cc
-image_apart (Err image.Mark) (Err image.Version) e = cc
-image_apart (Err image.Mark) (Err (image.Value p)) e = cc
-image_apart (Err image.Version) (Err image.Length) e = cc
-image_apart (Err image.Version) (Err image.Mark) e = cc
-image_apart (Err image.Version) (Err image.Version) e = cc
-image_apart (Err image.Version) (Err (image.Value p)) e = cc
-image_apart (Err (image.Value o)) (Err image.Length) e = cc
-image_apart (Err (image.Value o)) (Err image.Mark) e = cc
-image_apart (Err (image.Value o)) (Err image.Version) e = cc
-image_apart (Err (image.Value o)) (Err (image.Value p)) e = cc
+unfolding unsaid
+image_apart {A} x y e = sym (back x) ∙ ap unsaid e ∙ back y
+  where
+    back : (r : Result A ImageError) → unsaid (image_said r) ≡ r
+    back (Ok x) = refl
+    back (Err image.Length) = refl
+    back (Err image.Mark) = refl
+    back (Err image.Version) = refl
+    back (Err (image.Value o)) = refl
 
 -- and all answers to writing
 pub write_apart : (x y : Result (Unit {0}) WriteError) → write_said x ≡ write_said y → x ≡ y
 write_apart (Ok u) (Ok v) e = refl
 write_apart (Ok u) (Err (write.Value o)) e = cc
-write_apart (Err (write.Value o)) (Ok u) e = cc
 write_apart (Ok u) (Err write.NoRoom) e = cc
-write_apart (Err write.NoRoom) (Ok u) e = cc
+write_apart (Err (write.Value o)) (Ok u) e = cc
 write_apart (Err (write.Value o)) (Err (write.Value p)) e = cc
 write_apart (Err (write.Value o)) (Err write.NoRoom) e = cc
+write_apart (Err write.NoRoom) (Ok u) e = cc
 write_apart (Err write.NoRoom) (Err (write.Value p)) e = cc
 write_apart (Err write.NoRoom) (Err write.NoRoom) e = cc
 

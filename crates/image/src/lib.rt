@@ -6,7 +6,7 @@ mod read;
 mod write;
 
 ghost use Rattle.std.specs.Prelude.{◌≡◌, length};
-ghost use Rattle.image.specs.Image.{blank_program, blank_config};
+ghost use Rattle.image.specs.Image.{blank_config};
 ghost use Rattle.image.specs.Answers.{image_said, write_said, image_answer, image_read, write_answer, after_write, come_back, image_copy};
 ghost use Rattle.image.specs.declared.ImageError.{ImageError};
 ghost use Rattle.image.specs.declared.WriteError.{WriteError};
@@ -49,30 +49,11 @@ impl From<BadValue> for WriteError {
     }
 }
 
-fn blank_program() -> Program
-    ensures { result ≡ blank_program }
-{
-    Program {
-        windows: [Window { first: 0, end: 0 }; 128],
-        weeks: [0; 128],
-        seasons: [Season {
-            first: Date { day: 0, month: 0 },
-            second: Date { day: 0, month: 0 },
-        }; 8],
-        holidays: [Holiday {
-            day: 0,
-            month: 0,
-            year: 0,
-        }; 32],
-        rules: [Rule { season: 0, week: 0 }; 16],
-    }
-}
-
 // All zeros: the configuration where no image was accepted.
+#[tactic(auto, unfolding(crate::specs::Image::blank_program, crate::specs::Image::blank_config))]
 pub fn blank_config() -> Config
     ensures { result ≡ blank_config }
 {
-    let program = blank_program();
     Config {
         period: 0,
         inputs: [Input {
@@ -86,7 +67,20 @@ pub fn blank_config() -> Config
         coefficients: [0; 32],
         slots: [Slot { level: 0, index: 0 }; 16],
         limits: [0; 32],
-        program: program,
+        program: Program {
+            windows: [Window { first: 0, end: 0 }; 128],
+            weeks: [0; 128],
+            seasons: [Season {
+                first: Date { day: 0, month: 0 },
+                second: Date { day: 0, month: 0 },
+            }; 8],
+            holidays: [Holiday {
+                day: 0,
+                month: 0,
+                year: 0,
+            }; 32],
+            rules: [Rule { season: 0, week: 0 }; 16],
+        },
         registers: [Register { sum: 0, rule: 0 }; 16],
     }
 }

@@ -12,7 +12,7 @@ use settings::{
 use std::array;
 use tariff::Program;
 
-// The section that bytes start with.
+// The section that bytes start with. The closure has its clauses here, since the check does not read them off a body that is generic in a number.
 fn section<T: Entry<S>, const S: usize, const N: usize>(bytes: &[u8]) -> [T; N]
     requires { S * N ≤ length bytes.now }
     ensures { result ≡ entries T.dec S N bytes.now }

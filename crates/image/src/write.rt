@@ -1,7 +1,7 @@
 // Writing a configuration: a section, the whole. Each leaves every other byte as it was.
-ghost use Rattle.std.specs.Prelude.{◌≡◌, ◌*◌, ◌≤◌, ◌++◌, length, drop};
+ghost use Rattle.std.specs.Prelude.{◌≡◌, ◌*◌, ◌≤◌, ◌++◌, length, take, drop};
 ghost use Rattle.laws.specs.Runs.{joined};
-ghost use Rattle.image.specs.Image.{encode};
+ghost use Rattle.image.specs.Image.{program_bytes, encode};
 
 use crate::Config;
 use crate::entry::Entry;
@@ -9,6 +9,7 @@ use settings::{
     COEFFICIENTS_AT, HOLIDAYS_AT, INPUTS_AT, LIMITS_AT, REGISTERS_AT, RULES_AT, SEASONS_AT,
     SLOTS_AT, SUMS_AT, WEEKS_AT, WINDOWS_AT,
 };
+use tariff::Program;
 
 // A section, into the first bytes.
 fn section<T: Entry<S>, const S: usize, const N: usize>(bytes: &mut [u8], entries: &[T; N])
@@ -18,6 +19,18 @@ fn section<T: Entry<S>, const S: usize, const N: usize>(bytes: &mut [u8], entrie
     for (i, x) in entries.iter().enumerate() {
         bytes[S * i..S * (i + 1)].copy_from_slice(&x.to_bytes());
     }
+}
+
+// The tariff program, into its sections.
+fn program(bytes: &mut [u8], p: Program)
+    requires { 1126 ≤ length bytes.old }
+    ensures { bytes.new ≡ take 262 bytes.old ++ (program_bytes p ++ drop 1094 bytes.old) }
+{
+    section(&mut bytes[WINDOWS_AT..], &p.windows);
+    section(&mut bytes[WEEKS_AT..], &p.weeks);
+    section(&mut bytes[SEASONS_AT..], &p.seasons);
+    section(&mut bytes[HOLIDAYS_AT..], &p.holidays);
+    section(&mut bytes[RULES_AT..], &p.rules);
 }
 
 // The image of a configuration, into the first 1,126 bytes.
@@ -31,10 +44,6 @@ pub(crate) fn config(bytes: &mut [u8], c: Config)
     section(&mut bytes[COEFFICIENTS_AT..], &c.coefficients);
     section(&mut bytes[SLOTS_AT..], &c.slots);
     section(&mut bytes[LIMITS_AT..], &c.limits);
-    section(&mut bytes[WINDOWS_AT..], &c.program.windows);
-    section(&mut bytes[WEEKS_AT..], &c.program.weeks);
-    section(&mut bytes[SEASONS_AT..], &c.program.seasons);
-    section(&mut bytes[HOLIDAYS_AT..], &c.program.holidays);
-    section(&mut bytes[RULES_AT..], &c.program.rules);
+    program(bytes, c.program);
     section(&mut bytes[REGISTERS_AT..], &c.registers);
 }

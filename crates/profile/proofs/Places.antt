@@ -11,7 +11,7 @@ use Rattle.profile.specs.Reading.{held_in, oldest_of, place_at}
 use Rattle.profile.specs.declared.Profile.{Profile}
 
 -- a place is within a room that there is
-pub within_room : (room place : ℕ) → 0 < room → within room place < room
+within_room : (room place : ℕ) → 0 < room → within room place < room
 unfolding within
 within_room room place h = by_test (ltb place room) (λ t. rw t (ltb-true place room t)) (λ f. rw f h)
 
@@ -37,7 +37,7 @@ pub some_room : (n : ℕ) → legal_length n ≡ true → 0 < room_for n
 some_room n e = omega (arith, (legal_is n e).0)
 
 -- a place within the room is within the buffer
-pub place_fits : (p : Profile) (n place : ℕ) → as_at_start p n ≡ true → place < room_of p → 69 * place + 69 ≤ n
+place_fits : (p : Profile) (n place : ℕ) → as_at_start p n ≡ true → place < room_of p → 69 * place + 69 ≤ n
 place_fits p n place e h = omega (arith, start_is p n e, h)
 
 -- the next place is within the room
@@ -45,7 +45,7 @@ pub next_fits : (p : Profile) (n : ℕ) → as_at_start p n ≡ true → next_pl
 next_fits p n e = within_room (room_of p) p.next (rw (← start_is p n e) (some_room n (and_left (legal_length n) (eqb n p.length) e)))
 
 -- and so is the place of each record
-pub index_fits : (p : Profile) (n index : ℕ) → as_at_start p n ≡ true → index < room_of p → place_at p index < room_of p
+index_fits : (p : Profile) (n index : ℕ) → as_at_start p n ≡ true → index < room_of p → place_at p index < room_of p
 unfolding place_at
 index_fits p n index e h =
     let room = room_of p in

@@ -41,7 +41,7 @@ module _ (line : List ℕ) (at : ℕ) (inside : at ≤ length line) where
       (λ t. rw t (sym (ne_eqb (length (drop at line)) (k + 1) (λ q. absurd (true≢false (sym (eq-eqb (length line) (at + k + 1) (omega arith)) ∙ t)))))) in
       rw (get_or-drop at line k 0, e)
 
-  pub ends_from : ends_at line at ≡ ends_at (drop at line) 0
+  ends_from : ends_at line at ≡ ends_at (drop at line) 0
   unfolding ends_at
   ends_from =
       let n = letters_at line (at + 1) in

@@ -8,7 +8,7 @@ use native.Mathlib.Nat.{add-zero, mul_left_comm, add-mul, mul_assoc, mul_comm, m
 use native.Mathlib.Omega.{arith}
 use borrow.Author.Tests.{lt-ltb, eq-eqb, ne_eqb, eqb-true, ltb-true, ltb-false}
 use lib.Dec.{ltb, eqb}
-use lib.ListN.{length, get_or, take, drop, length-take, length-drop, drop_of_length-le, take-append-drop}
+use lib.ListN.{length, get_or, take, drop, length-drop, drop_of_length-le, take-append-drop}
 use lib.Pow.{pow-add}
 use lib.Seq.{take_all, length-take-le, get_or-drop, drop-drop}
 use Rattle.laws.specs.Answers.{given, refused}
@@ -24,12 +24,12 @@ use Rattle.readout.specs.Held.{held, all_zeros, held_answer, held_size, fraction
 use Rattle.readout.proofs.Held.{held_digits, held_pow}
 
 -- no digit in front
-pub no_digit : (u : List ℕ) (d : ℕ) → leading is_digit u ≡ 0 → held_size u d ≡ refused 18 0
+no_digit : (u : List ℕ) (d : ℕ) → leading is_digit u ≡ 0 → held_size u d ≡ refused 18 0
 unfolding size_of is_decimal
 no_digit u d e = rw e
 
 -- digits alone
-pub all_digits : (u : List ℕ) (d : ℕ) → (leading is_digit u ≡ 0 → ⊥) → leading is_digit u ≡ length u
+all_digits : (u : List ℕ) (d : ℕ) → (leading is_digit u ≡ 0 → ⊥) → leading is_digit u ≡ length u
     → held_size u d ≡ given (held (held (value_from 0 u) * 10 ^ d))
 unfolding size_of is_decimal
 all_digits u d h e =
@@ -41,7 +41,7 @@ all_digits u d h e =
     rw (e, none, whole, append-nil u, some, eq-eqb n n refl, mod-one (value_from 0 u * 10 ^ d), div-one (value_from 0 u * 10 ^ d)) (ap given (sym (held_pow (value_from 0 u) d)))
 
 -- another letter behind the digits than a point
-pub no_point : (u : List ℕ) (d n : ℕ) → leading is_digit u ≡ n → n < length u → (get_or u n 0 ≡ 46 → ⊥) → held_size u d ≡ refused 18 0
+no_point : (u : List ℕ) (d n : ℕ) → leading is_digit u ≡ n → n < length u → (get_or u n 0 ≡ 46 → ⊥) → held_size u d ≡ refused 18 0
 unfolding size_of is_decimal
 no_point u d n e h g = rw (e, ne_eqb n (length u) (λ k. omega arith), ne_eqb _ _ g) (by_test (ltb 0 n) (λ t. rw t) (λ t. rw t))
 
@@ -81,9 +81,6 @@ module _ (v : ℕ) (f : List ℕ) (d : ℕ) (some : 0 < length f) where
 
   whole_list : f₁ ++ f₂ ≡ f
   whole_list = take-append-drop p f
-
-  first_length : length f₁ ≡ p
-  first_length = rw (length-take) (omega arith)
 
   second_length : length f₂ ≡ length f - p
   second_length = length-drop p f
@@ -130,7 +127,7 @@ module _ (v : ℕ) (f : List ℕ) (d : ℕ) (some : 0 < length f) where
       let one : r * 1 ≤ r * 10 ^ p = mul-le-mul_left r (one-le-pow p 10 (omega arith)) in
       ne_eqb (exact % 10 ^ length f) 0 (λ t. more (omega arith))
 
-  pub fraction : held_answer (if digits f && eqb (exact % 10 ^ length f) 0 then given (exact / 10 ^ length f) else refused 18 0) ≡ fraction_size (held v) f d
+  fraction : held_answer (if digits f && eqb (exact % 10 ^ length f) 0 then given (exact / 10 ^ length f) else refused 18 0) ≡ fraction_size (held v) f d
   unfolding fraction_size
   fraction =
       by_test (digits f)
@@ -149,7 +146,7 @@ module _ (v : ℕ) (f : List ℕ) (d : ℕ) (some : 0 < length f) where
       (by_test (digits f₁) (λ a. by_test (all_zeros f₂) (λ z. absurd (true≢false (sym (digits_all a z) ∙ t))) (λ z. rw (a, z))) (λ a. rw a)))
 
 -- a point behind the digits
-pub behind : (u : List ℕ) (d n : ℕ) → leading is_digit u ≡ n → (n ≡ 0 → ⊥) → n < length u → get_or u n 0 ≡ 46
+behind : (u : List ℕ) (d n : ℕ) → leading is_digit u ≡ n → (n ≡ 0 → ⊥) → n < length u → get_or u n 0 ≡ 46
     → held_size u d ≡ fraction_size (held (value_from 0 (take n u))) (drop (n + 1) u) d
 unfolding size_of is_decimal fraction_size
 behind u d n e z h g =

@@ -17,7 +17,7 @@ pub struct Place {
 fn is_letter(b: u8) -> bool
     ensures { result ≡ address_letter b }
 {
-    matches!(b, b' '..=b'~') && !matches!(b, b'(' | b')' | b'/' | b'!')
+    matches!(b, b' '..=b'~') && b != b'(' && b != b')' && b != b'/' && b != b'!'
 }
 
 // A value and a unit have no star, either.

@@ -14,7 +14,13 @@ use Rattle.laws.proofs.Tests.{by_test}
 use Rattle.settings.specs.declared.Config.{Config}
 use Rattle.recorder.specs.declared.Recorder.{Recorder}
 use Rattle.registers.specs.Contents.{padded}
-use Rattle.registers.specs.Registers.{Group, look_up, used_in, held_by, Shape, shape_of, refusal, register_read, reply_of}
+use Rattle.std.specs.Prelude.{Option, Some, None, Ok, Err}
+use Rattle.std.specs.Option.{ok_or}
+use borrow.Author.Rules.{rules}
+use Rattle.registers.specs.declared.Layout.{Layout}
+use Rattle.registers.specs.declared.RegisterError.{RegisterError}
+use Rattle.registers.specs.declared.RegisterError.TheVariants.{NoGroup}
+use Rattle.registers.specs.Registers.{groups, group_of, layout_of, layout_said, Group, look_up, used_in, held_by, Shape, shape_of, refusal, register_read, reply_of}
 
 -- a number that no line has finds nothing
 pub none_found : (gs : List Group) (n : ℕ) → Each (λ g. n ≡ g.number → ⊥) gs → look_up gs n ≡ refused 11 0
@@ -92,3 +98,23 @@ module _ {a : Answer Group} {registers bytes : ℕ} (line : Found a registers by
 pub given_out : (n : ℕ) (held old : List ℕ) {bytes after : List ℕ} → length held ≡ n → bytes ≡ padded held → after ≡ take n bytes ++ drop n old
     → after ≡ held ++ drop n old
 given_out n held old long b e = let t : take n (padded held) ≡ held = rw (← long) (take-append_seam held _) in e ∙ rw (b, t)
+
+-- the line of the table behind a layout, and the refusal where there is none
+pub laid : (n : ℕ) (o : Option Layout) (l : Layout) → layout_said o ≡ layout_of n → Ok l ≡ ok_or o NoGroup → Found (group_of n) l.registers l.bytes
+laid n o l said e = found (group_of n) l.registers l.bytes (same o e ∙ said)
+  where
+    same : (o : Option Layout) → Ok l ≡ ok_or o NoGroup → given (record { registers = l.registers; bytes = l.bytes }) ≡ layout_said o
+    same (Some m) e = search rules
+    same None e = search rules
+
+pub none_laid : (o : Option Layout) (e : RegisterError) → Err e ≡ ok_or o NoGroup → (e ≡ NoGroup) × (refused 11 0 ≡ layout_said o)
+none_laid (Some m) x e = search rules
+none_laid None x e = search rules
+
+-- no register has more than 13 bytes
+pub few : (n : ℕ) {registers bytes : ℕ} → Found (group_of n) registers bytes → bytes ≤ 13
+unfolding groups
+few n found = rw (← found.long) (each_found (λ g. g.bytes ≤ 13) groups n _ found.is (search rules))
+
+-- what a refused request asks for
+pub ruleset refusals = (laid, none_laid, not_found, reply_12, reply_8, reply_13)

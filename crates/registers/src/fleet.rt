@@ -42,6 +42,7 @@ fn plus_if(sum: i64, wanted: bool, value: i32) -> i64
 }
 
 // One look at each meter makes the masks of the four classes and the sum. The fitted meters are those of any class.
+// The loop keeps its index: it is the bit of the masks, and limits and meters are two arrays.
 pub fn fleet_of(recorder: Recorder) -> Fleet
     ensures { result ≡ fleet_of recorder }
 {

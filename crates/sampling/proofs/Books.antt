@@ -1,5 +1,6 @@
 -- Laws of what a sample books.
-use Rattle.std.specs.Prelude.{Option, Some, if◌then◌else◌}
+use Rattle.std.specs.Prelude.{Option, Some, Result, Ok, Err, if◌then◌else◌}
+use Rattle.std.specs.Result.{is_err}
 use mathlib.Core.Path.{◌≡◌, refl, sym, ap, ◌∙◌}
 use mathlib.Core.Bool.{Bool, true, false, not, ◌&&◌}
 use mathlib.Core.List.{List}
@@ -24,7 +25,7 @@ use Rattle.settings.specs.declared.Config.{Config}
 use Rattle.settings.specs.declared.Input.{Input}
 use Rattle.settings.specs.declared.Register.{Register}
 use Rattle.counting.specs.Filter.{input_at, line_at, filtered, stepped_of}
-use Rattle.counting.specs.ByMask.{running_lines, advanced_lines, settled_of, fed_registers, fed_at, some_full, amounts_booked, with_amounts}
+use Rattle.counting.specs.ByMask.{running_lines, advanced_lines, settled_of, fed_at, some_full, amounts_booked, with_amounts}
 use Rattle.counting.specs.Units.{credits_of}
 use Rattle.counting.specs.Bills.{register_at, bill_at, unit_at, sum_of, sum_at, sums_of, register_units, feeds, due_of, billed, booked_of}
 use Rattle.counting.specs.Laws.{Ending}
@@ -32,7 +33,9 @@ use Rattle.counting.specs.declared.Line.{Line}
 use Rattle.counting.specs.declared.Bill.{Bill}
 use Rattle.counting.proofs.Parts.{lines_by_mask, none_settled, none_brought, full_by_mask, bills_by_mask}
 use Rattle.sampling.specs.Samples.{booking_of}
-use Rattle.sampling.specs.Kept.{InForce, fed_at_clock, restored_lines}
+use Rattle.sampling.specs.Kept.{InForce, fed_at_clock, restored_lines, Nothing, refused_full, Ended, ended_of, ended_said}
+use Rattle.sampling.specs.declared.SampleError.{SampleError}
+use Rattle.sampling.specs.declared.SampleError.TheVariants.{Full}
 
 -- a register that gets nothing stays as it is
 none_billed : (bill : Bill) → billed bill 0 ≡ bill
@@ -111,6 +114,34 @@ not_both true false = refl
 not_both false true = refl
 not_both false false = refl
 
+-- a sample is refused where a register would be full
+is_full : (b : Bool) → is_err (refused_full b) ≡ b
+is_full true = refl
+is_full false = refl
+
+module _ (c : Config) (fed : ℕ) (lines : List Line) (amounts : List ℕ) (ending : ℕ) where
+  -- where the lines whose runs end bring no units nothing is booked
+  pub ended_nothing : Nothing (settled_of c.inputs lines ending).units → length amounts ≡ 16 → ended_said (Ok tt) (settled_of c.inputs lines ending).lines amounts ≡ ended_of c fed lines amounts ending
+  unfolding ended_of
+  ended_nothing none size =
+      let units = (settled_of c.inputs lines ending).units in
+      let full = none_full c.registers amounts fed c.sums units none in
+      let kept = same_amounts c.registers amounts fed c.sums units none size in
+      rw (full, kept)
+
+  -- else what they bring is
+  pub ended_booked : (units : List ℕ) (answer : Result (Unit {0}) SampleError) (more : List ℕ) → units ≡ (settled_of c.inputs lines ending).units
+      → answer ≡ refused_full (some_full c.registers amounts fed (sums_of c.sums units)) → more ≡ amounts_booked c.registers amounts fed (sums_of c.sums units)
+      → ended_said answer (if is_err answer then lines else (settled_of c.inputs lines ending).lines) more ≡ ended_of c fed lines amounts ending
+  unfolding ended_of
+  ended_booked units answer more u a m =
+      let sums = sums_of c.sums (settled_of c.inputs lines ending).units in
+      rw (a, m, u, is_full (some_full c.registers amounts fed sums))
+
+-- some register that is fed would be full with what the runs of a mask bring
+abbrev full_at : Config → ℕ → List Line → List ℕ → ℕ → Bool
+full_at c fed lines amounts ending = some_full c.registers amounts fed (sums_of c.sums (settled_of c.inputs lines ending).units)
+
 module _ (c : Config) (clock : ℕ) (lines : List Line) (bills : List Bill) (amounts : List ℕ) (mask running ending : ℕ)
     (runs_are : running ≡ running_lines lines) (ends_are : ending ≡ bit_xor running (bit_and running mask)) where
   -- a line with a run
@@ -122,60 +153,68 @@ module _ (c : Config) (clock : ℕ) (lines : List Line) (bills : List Bill) (amo
   ending_bit : Ending lines mask ending
   ending_bit i l = rw (ends_are, bit_xor_lem running (bit_and running mask) i, bit_and_lem running mask i, running_bit i l) (not_both (ltb 0 (line_at lines i).run) (bit_at mask i))
 
-  module _ (units : List ℕ) (fed : ℕ) (brings : units ≡ (settled_of c.inputs lines ending).units) (in_force_lem : fed ≡ fed_at_clock c clock) where
-    -- whether a sample would fill a register
-    pub full_booking : (booking_of c clock lines (with_amounts bills amounts) mask).full ≡ some_full c.registers amounts fed (sums_of c.sums units)
-    unfolding booking_of
-    full_booking =
-        rw (in_force_lem, brings, (lines_by_mask c.inputs lines mask ending ending_bit).1)
-        (full_by_mask c.registers bills amounts (force_map_at c.program clock) (sums_of c.sums (settled_of c.inputs lines ending).units))
+  -- whether a sample would fill a register
+  full_booking : (booking_of c clock lines (with_amounts bills amounts) mask).full ≡ full_at c (fed_at_clock c clock) lines amounts ending
+  unfolding booking_of
+  full_booking =
+      rw (lines_by_mask c.inputs lines mask ending ending_bit).1
+      (full_by_mask c.registers bills amounts (force_map_at c.program clock) (sums_of c.sums (settled_of c.inputs lines ending).units))
 
-    -- what one that fills none books
-    pub whole_booking : (left : List Line) → left ≡ (settled_of c.inputs lines ending).lines → some_full c.registers amounts fed (sums_of c.sums units) ≡ false
-        → record { full = false; lines = advanced_lines left mask; bills = with_amounts bills (amounts_booked c.registers amounts fed (sums_of c.sums units)) }
-        ≡ booking_of c clock lines (with_amounts bills amounts) mask
-    unfolding booking_of
-    whole_booking left settles none =
-        let map = force_map_at c.program clock in
-        let sums = sums_of c.sums (settled_of c.inputs lines ending).units in
-        let same = lines_by_mask c.inputs lines mask ending ending_bit in
-        let empty : some_full c.registers amounts (fed_registers c.registers map) sums ≡ false = rw (in_force_lem, brings) at none in
-        let full = full_by_mask c.registers bills amounts map sums ∙ empty in
-        let booked = bills_by_mask c.registers bills amounts map sums empty in
-        rw (in_force_lem, brings, settles, same.1, same.0)
-        (λ i. record { full = sym full i; lines = advanced_lines (settled_of c.inputs lines ending).lines mask; bills = sym booked i })
+  -- what one that fills none books
+  whole_booking : full_at c (fed_at_clock c clock) lines amounts ending ≡ false
+      → record { full = false; lines = advanced_lines (settled_of c.inputs lines ending).lines mask; bills = with_amounts bills (amounts_booked c.registers amounts (fed_at_clock c clock) (sums_of c.sums (settled_of c.inputs lines ending).units)) }
+      ≡ booking_of c clock lines (with_amounts bills amounts) mask
+  unfolding booking_of
+  whole_booking none =
+      let map = force_map_at c.program clock in
+      let sums = sums_of c.sums (settled_of c.inputs lines ending).units in
+      let same = lines_by_mask c.inputs lines mask ending ending_bit in
+      let full = full_by_mask c.registers bills amounts map sums ∙ none in
+      let booked = bills_by_mask c.registers bills amounts map sums none in
+      rw (same.1, same.0) (λ i. record { full = sym full i; lines = advanced_lines (settled_of c.inputs lines ending).lines mask; bills = sym booked i })
 
-  -- what a sample that fills no register leaves before the runs go on: the lines, the amounts and the tariffs
-  pub record Left (left : List Line) (open_amounts : List ℕ) (tariffs : Option ℕ) : Type 0 where
-    pub books : record { full = false; lines = advanced_lines left mask; bills = with_amounts bills open_amounts } ≡ booking_of c clock lines (with_amounts bills amounts) mask
-    pub lines_sixteen : length left ≡ 16
-    pub amounts_sixteen : length open_amounts ≡ 16
+  module _ (now : List Line) (more : List ℕ) where
+    -- a sample that fills no register
+    taken_booking : ended_said (Ok tt) now more ≡ ended_of c (fed_at_clock c clock) lines amounts ending
+        → record { full = false; lines = advanced_lines now mask; bills = with_amounts bills more } ≡ booking_of c clock lines (with_amounts bills amounts) mask
+    unfolding ended_of
+    taken_booking e =
+        by_test (full_at c (fed_at_clock c clock) lines amounts ending)
+        (λ t. let no : Ok tt ≡ refused_full true = rw t at (ap (λ (r : Ended). r.answer) e) in cc)
+        (λ f.
+        let fine = rw f at e in
+        rw (ap (λ (r : Ended). r.lines) fine, ap (λ (r : Ended). r.amounts) fine) (whole_booking f))
+
+    -- one that would fill some is refused, and all is as it was
+    pub refused_booking : (error : SampleError) → ended_said (Err error) now more ≡ ended_of c (fed_at_clock c clock) lines amounts ending
+        → (error ≡ Full) × (now ≡ lines) × (more ≡ amounts) × ((booking_of c clock lines (with_amounts bills amounts) mask).full ≡ true)
+    unfolding ended_of amounts_booked
+    refused_booking error e =
+        by_test (full_at c (fed_at_clock c clock) lines amounts ending)
+        (λ t.
+        let full = rw t at e in
+        let same : Err error ≡ Err Full = ap (λ (r : Ended). r.answer) full in
+        (cc, ap (λ (r : Ended). r.lines) full, ap (λ (r : Ended). r.amounts) full, full_booking ∙ t))
+        (λ f. let no : Err error ≡ Ok tt = rw f at (ap (λ (r : Ended). r.answer) e) in cc)
+
+  -- what a sample that fills no register leaves before the runs go on
+  pub record Left (now : List Line) (more : List ℕ) (tariffs : Option ℕ) : Type 0 where
+    pub books : record { full = false; lines = advanced_lines now mask; bills = with_amounts bills more } ≡ booking_of c clock lines (with_amounts bills amounts) mask
+    pub amounts_sixteen : length more ≡ 16
     pub in_force_lem : InForce c clock tariffs
 
-  -- where no run ends
-  pub unended : (left : List Line) (open_amounts : List ℕ) (tariffs known : Option ℕ) → ending ≡ 0 → length lines ≡ 16 → length amounts ≡ 16 → InForce c clock known
-      → left ≡ lines → open_amounts ≡ amounts → tariffs ≡ known → Left left open_amounts tariffs
-  unended left open_amounts tariffs known none size sizes force l a t =
-      let units = (settled_of c.inputs lines ending).units in
-      let nothing : (i : ℕ) → i < 16 → unit_at units i ≡ 0 = rw none (none_brought c.inputs lines) in
-      let fed = fed_at_clock c clock in
-      let empty = none_full c.registers amounts fed c.sums units nothing in
-      let kept = same_amounts c.registers amounts fed c.sums units nothing sizes in
-      let settles : lines ≡ (settled_of c.inputs lines ending).lines = rw none (sym (none_settled c.inputs lines size)) in
-      rw (l, a, t) (record { books = rw kept at (whole_booking units fed refl refl lines settles empty); lines_sixteen = size; amounts_sixteen = sizes; in_force_lem = force })
+  -- where no run ends, all is as it was
+  pub unended : {now : List Line} {more : List ℕ} {tariffs known : Option ℕ} → ending ≡ 0 → length lines ≡ 16 → length amounts ≡ 16 → InForce c clock known
+      → now ≡ lines → more ≡ amounts → tariffs ≡ known → Left now more tariffs
+  unended none size sizes force l a t =
+      let nothing : Nothing (settled_of c.inputs lines ending).units = rw none (none_brought c.inputs lines) in
+      let same : (settled_of c.inputs lines ending).lines ≡ lines = rw none (none_settled c.inputs lines size) in
+      let ended = rw same at (ended_nothing c (fed_at_clock c clock) lines amounts ending nothing sizes) in
+      rw (l, a, t) (record { books = taken_booking lines amounts ended; amounts_sixteen = sizes; in_force_lem = force })
 
-  -- where some end, and no register is full
-  pub ended : (left : List Line) (open_amounts units : List ℕ) (fed : ℕ) → left ≡ (settled_of c.inputs lines ending).lines → units ≡ (settled_of c.inputs lines ending).units
-      → fed ≡ fed_at_clock c clock → some_full c.registers amounts fed (sums_of c.sums units) ≡ false
-      → open_amounts ≡ amounts_booked c.registers amounts fed (sums_of c.sums units) → Left left open_amounts (Some fed)
-  unfolding settled_of amounts_booked
-  ended left open_amounts units fed settles brings force none books =
-      record {
-        books = rw (books, none) (rw none at (whole_booking units fed brings force left settles none));
-        lines_sixteen = rw settles (length_table 16 _);
-        amounts_sixteen = rw (books, none) (length_table 16 _);
-        in_force_lem = force;
-      }
+  -- where some end, what they bring is booked
+  pub ended : {now : List Line} {more : List ℕ} {tariffs : Option ℕ} {fed : ℕ} → length more ≡ 16 → fed ≡ fed_at_clock c clock → ended_said (Ok tt) now more ≡ ended_of c fed lines amounts ending → tariffs ≡ Some fed → Left now more tariffs
+  ended {now} {more} sizes force e t = rw t (record { books = taken_booking now more (rw force at e); amounts_sixteen = sizes; in_force_lem = force })
 
 -- units of nothing, with nothing put in
 pub still_none : (units : List ℕ) (i v : ℕ) → i < length units → v ≡ 0 → ((j : ℕ) → j < 16 → unit_at units j ≡ 0) → (j : ℕ) → j < 16 → unit_at (set units i v) j ≡ 0
@@ -206,8 +245,3 @@ unfolding running_lines
 ending_below lines running mask e =
     let below : running < 2 ^ 16 = rw e (mask_below 16 _) in
     xor_lt 16 running (bit_and running mask) below (lt_of_le_of_lt (and_le_l running mask) below)
-
--- where a register would be full, the amounts stay as they are
-pub kept_amounts : (registers : List Register) (amounts : List ℕ) (fed : ℕ) (sums : List ℕ) → some_full registers amounts fed sums ≡ true → amounts_booked registers amounts fed sums ≡ amounts
-unfolding amounts_booked
-kept_amounts registers amounts fed sums e = rw e

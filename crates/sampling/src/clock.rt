@@ -6,6 +6,7 @@ ghost use Rattle.sampling.specs.Laps.{closed_here};
 use crate::{Line, Period, State};
 use counting::levels::level9;
 use settings::Config;
+use std::array;
 
 // Whether a time is a multiple of the period's seconds. No image has a period of 0 minutes; one that had would have no multiple.
 pub(crate) fn is_multiple(period: u8, time: u32) -> bool
@@ -22,17 +23,10 @@ pub(crate) fn is_multiple(period: u8, time: u32) -> bool
 fn cleared(lines: [Line; 16]) -> [Line; 16]
     ensures { result ≡ cleared_lines lines }
 {
-    let mut next = lines;
-    for i in 0..16usize {
-        let line = lines[i];
-        next[i] = Line {
-            run: line.run,
-            rejected: line.rejected,
-            remainder: line.remainder,
-            units: 0,
-        };
-    }
-    next
+    array::from_fn(|i| Line {
+        units: 0,
+        ..lines[i]
+    })
 }
 
 // The period that closes: its state, its closing time, its chosen values.
@@ -62,12 +56,10 @@ pub fn close_with(config: Config, state: State, kind: u8, stamp: u32, time: u32)
     ensures { result ≡ closed_with state time (closed_as config kind stamp state.lines) }
 {
     let lines = state.lines;
-    let closed = close_period(config, kind, stamp, lines);
-    let fresh = cleared(lines);
     let mut next = state;
     next.first = time;
-    next.lines = fresh;
-    next.closed = closed;
+    next.lines = cleared(lines);
+    next.closed = close_period(config, kind, stamp, lines);
     next
 }
 

@@ -1,16 +1,20 @@
 // A run of samples. What changes with nearly every sample is kept in variables of its own; the rest of the state is touched when a period closes.
 ghost use Rattle.std.specs.Prelude.{◌≡◌, ◌+◌, ◌-◌, ◌≤◌, length};
+ghost use Rattle.counting.specs.ByMask.{advanced_lines};
 ghost use Rattle.sampling.specs.Samples.{put_in};
 ghost use Rattle.sampling.specs.Laps.{lap_of, lap_said};
-ghost use Rattle.sampling.specs.Kept.{Idle, restored_lines};
+ghost use Rattle.sampling.specs.Kept.{Idle};
 
-use crate::booking::{aged, book, fed_by};
+use crate::booking::{aged, end_runs, fed_by};
 use crate::clock::is_multiple;
 use crate::{Bill, Line, SampleError, State};
 use counting::bills::{amounts_of, put_amounts};
+use counting::bits::Bits;
 use counting::filter::{advance, kind_mask, running_lines};
-use counting::units::settle;
 use settings::Config;
+
+// The samples of a second before its last, the hundredth.
+const LAST: u8 = 99;
 
 // A run to the first closing: the state, how many samples were taken, the refusal that ended it, if there was one, and whether it ended with a closing, which is still to be done.
 #[derive(Clone, Copy)]
@@ -21,6 +25,7 @@ pub struct Lap {
     pub closes: bool,
 }
 
+// The state with what has moved. By field, since `..state` copies the meters twice on their way.
 fn put_in(state: State, clock: u32, samples: u8, lines: [Line; 16], bills: [Bill; 16]) -> State
     ensures { result ≡ put_in state clock samples lines bills }
 {
@@ -36,10 +41,7 @@ fn put_in(state: State, clock: u32, samples: u8, lines: [Line; 16], bills: [Bill
 fn room(count: u8) -> usize
     ensures { result ≡ 99 - count }
 {
-    if count >= 99 {
-        return 0;
-    }
-    (99 - count) as usize
+    LAST.saturating_sub(count) as usize
 }
 
 // The end of the samples from k on, at most `room` of them.
@@ -47,24 +49,16 @@ fn end_of(length: usize, k: usize, room: usize) -> usize
     requires { k ≤ length }
     ensures { (k ≤ result) × (result ≤ length) × (result ≤ k + room) }
 {
-    if length - k < room {
-        return length;
-    }
-    k + room
+    length.min(k.saturating_add(room))
 }
 
-// The lines with those of a mask as they were.
-fn restored(lines: [Line; 16], old: [Line; 16], mask: u16) -> [Line; 16]
-    ensures { result ≡ restored_lines lines old mask }
+// Lets the runs of the active lines go on.
+fn advance_lines(lines: &mut [Line; 16], active: u16)
+    ensures { lines.new ≡ advanced_lines lines.old active }
 {
-    let mut next = lines;
-    let mut left = mask;
-    while left > 0 {
-        let i = u16::trailing_zeros(left) as usize;
-        next[i] = old[i];
-        left = left & (left - 1);
+    for i in Bits(active) {
+        advance(&mut lines[i].run, true);
     }
-    next
 }
 
 // The lines that are active in one of the eight samples from k on.
@@ -128,7 +122,7 @@ pub fn take(config: Config, start: State, bits: &[u16]) -> Lap
                 continue;
             }
         }
-        if (clock == 4294967295) & (99 <= count) {
+        if (clock == u32::MAX) & (LAST <= count) {
             answer = Err(SampleError::ClockEnd);
             break;
         }
@@ -137,47 +131,16 @@ pub fn take(config: Config, start: State, bits: &[u16]) -> Lap
         // The first inactive sample after a run ends it.
         let ending = running ^ (running & active);
         if ending > 0 {
-            let mut old = [Line {
-                run: 0,
-                rejected: 0,
-                remainder: 0,
-                units: 0,
-            }; 16];
-            let mut units = [0u32; 16];
-            let mut brought: u32 = 0;
-            let mut left = ending;
-            while left > 0 {
-                let i = u16::trailing_zeros(left) as usize;
-                let line = lines[i];
-                let settled = settle(inputs[i], line);
-                let next = settled.line;
-                units[i] = settled.units;
-                brought = brought | settled.units;
-                old[i] = line;
-                lines[i] = next;
-                left = left & (left - 1);
-            }
-            let fed = fed_by(config, clock, tariffs);
-            tariffs = Some(fed);
-            // Nothing of a sample that is refused is kept.
-            if book(&mut amounts, config, fed, ending, units, brought) {
-                lines = restored(lines, old, ending);
-                answer = Err(SampleError::Full);
+            let fed = fed_by(config, clock, &mut tariffs);
+            if let Err(error) = end_runs(&mut lines, &mut amounts, config, fed, ending) {
+                answer = Err(error);
                 break;
             }
         }
-        // The runs of the active lines go on, one set bit after another.
-        let mut left = active;
-        while left > 0 {
-            let i = u16::trailing_zeros(left) as usize;
-            let mut line = lines[i];
-            advance(&mut line.run, true);
-            lines[i] = line;
-            left = left & (left - 1);
-        }
+        advance_lines(&mut lines, active);
         running = active;
         k += 1;
-        if count < 99 {
+        if count < LAST {
             count += 1;
             continue;
         }

@@ -38,7 +38,7 @@ pub const RULES_AT: usize = 1062;
 
 pub const REGISTERS_AT: usize = 1094;
 
-// One impulse input. Kind 0 is not fitted, 1 S1a, 2 S1r.
+// One impulse input. Kind 0 is not fitted, 1 S1a, 2 S1r; it is a number, since `check_config` is given the others too and refuses them.
 #[derive(Clone, Copy)]
 pub struct Input {
     pub kind: u8,
@@ -48,7 +48,7 @@ pub struct Input {
     pub denominator: u16,
 }
 
-// One slot of level 9; 255, 0 is empty.
+// One slot of level 9; 255, 0 is empty. The level is a number for the same reason.
 #[derive(Clone, Copy)]
 pub struct Slot {
     pub level: u8,

@@ -2,24 +2,47 @@
 use mathlib.Core.Path.{◌≡◌}
 use mathlib.Core.Bool.{true, false}
 use mathlib.Core.Option.{some, none}
-use Prim.Native.Nat.{ℕ, ◌<◌}
+use mathlib.Core.List.{List}
+use Prim.Native.Nat.{ℕ, ◌+◌, ◌-◌, ◌*◌, ◌<◌}
+use native.Mathlib.Omega.{arith}
+use lib.ListN.{get_or, take, drop, length}
+use Rattle.std.proofs.Common.{length-drop}
+use Rattle.std.proofs.lemmas.List.{get_or-take, get_or-drop, length-take}
 use borrow.Author.Tests.{lt-ltb}
 use Rattle.laws.proofs.Any.{any_at, any_none}
 use Rattle.laws.proofs.First.{first_is, first_none}
-use Rattle.tariff.specs.Daily.{in_window, window_at, daily_active}
+use Rattle.tariff.specs.Daily.{in_window, zero_window, window_at, daily_active}
 use Rattle.tariff.specs.Weekly.{holiday_fits, holiday_at, first_holiday}
+use Rattle.tariff.specs.declared.Window.{Window}
 use Rattle.tariff.specs.declared.Program.{Program}
 
--- a daily rule is active, if one of its four windows is
-pub daily_on : (p : Program) (rule minute k : ℕ) → rule < 32 → k < 4 → in_window (window_at p rule k) minute ≡ true → true ≡ daily_active p rule minute
-unfolding daily_active
-daily_on p rule minute k h l t = rw (lt-ltb rule 32 h, any_at 4 (λ i. in_window (window_at p rule i) minute) k l t)
+-- the windows of a daily rule, as the code takes them out of the program
+abbrev pub windows_of : Program → ℕ → List Window
+windows_of p rule = take (rule * 4 + 4 - rule * 4) (drop (rule * 4) p.windows)
 
--- and not, if none of them is
-pub daily_off : (p : Program) (rule minute : ℕ) → rule < 32 → ((j : ℕ) → j < 4 → in_window (window_at p rule j) minute ≡ false)
-    → false ≡ daily_active p rule minute
-unfolding daily_active
-daily_off p rule minute h off = rw (lt-ltb rule 32 h, any_none 4 (λ k. in_window (window_at p rule k) minute) off)
+module _ (p : Program) (rule minute : ℕ) (h : rule < 32) (l : length p.windows ≡ 128) where
+  -- they are four
+  four : length (windows_of p rule) ≡ 4
+  four = omega (arith, length-take {A = Window}, length-drop {A = Window})
+
+  -- window k of the rule is one of them
+  window_of : (k : ℕ) → k < 4 → get_or (windows_of p rule) k zero_window ≡ window_at p rule k
+  window_of k b =
+      let n : rule * 4 + 4 - rule * 4 ≡ 4 = omega arith in
+      rw (n, get_or-take 4 (drop (rule * 4) p.windows) k zero_window b, get_or-drop (rule * 4) p.windows k zero_window)
+
+  -- the rule is active, if one of them is
+  pub daily_on : (k : ℕ) → k < length (windows_of p rule) → in_window (get_or (windows_of p rule) k zero_window) minute ≡ true → true ≡ daily_active p rule minute
+  unfolding daily_active
+  daily_on k b t =
+      let below : k < 4 = omega (arith, four) in
+      rw (lt-ltb rule 32 h, any_at 4 (λ i. in_window (window_at p rule i) minute) k below (rw (window_of k below) at t))
+
+  -- and not, if none of them is
+  pub daily_off : ((j : ℕ) → j < length (windows_of p rule) → in_window (get_or (windows_of p rule) j zero_window) minute ≡ false) → false ≡ daily_active p rule minute
+  unfolding daily_active
+  daily_off off =
+      rw (lt-ltb rule 32 h, any_none 4 (λ k. in_window (window_at p rule k) minute) (λ j b. rw (window_of j b) at (off j (omega (arith, four)))))
 
 -- holiday k is found, if it is the first that fits
 pub holiday_found : (p : Program) (day month year k : ℕ) → k < 32 → holiday_fits (holiday_at p k) day month year ≡ true

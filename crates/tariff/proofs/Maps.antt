@@ -14,6 +14,7 @@ use Rattle.tariff.specs.Weekly.{column_on, reference_in, reference_at, minute_of
 use Rattle.tariff.specs.Seasons.{date_of, season_at, in_season, season_active, season_map}
 use Rattle.tariff.specs.Rules.{rule_at, applies, in_force, force_map}
 use Rattle.tariff.specs.declared.Date.{Date}
+use Rattle.tariff.specs.declared.Rule.{Rule}
 use Rattle.tariff.specs.declared.Program.{Program}
 
 -- bit r of the daily map is daily rule r
@@ -44,32 +45,24 @@ unfolding force_map in_force
 force_bit p m i = bit_at_lem 16 (λ k. in_force p k m) i ∙ and_self_left (ltb i 16) _
 
 -- the test that the code puts into the weekly map: the bit of the daily rule that is used
-unfoldable pub used_at : List ℕ → ℕ → ℕ → ℕ → Bool
+abbrev pub used_at : List ℕ → ℕ → ℕ → ℕ → Bool
 used_at weeks daily column week = bit_at daily (reference_in weeks week column)
 
 -- it makes the weekly map
 pub weekly_made : (p : Program) (m : Moment) (daily column minute : ℕ) → daily ≡ daily_map p minute → minute ≡ minute_of m → column ≡ column_on p m
     → mask_of 16 (used_at p.weeks daily column) ≡ weekly_map p m
-unfolding weekly_map weekly_active used_at reference_at
+unfolding weekly_map weekly_active reference_at
 weekly_made p m daily column minute d i c =
     mask_cong 16 _ _ (λ week l. rw (d, i, c) (daily_bit p (minute_of m) (reference_at p week (column_on p m))))
 
 -- the test that the code puts into the force map: the bits of the season and of the weekly rule
-unfoldable pub applies_at : Program → ℕ → ℕ → ℕ → Bool
-applies_at p weekly seasons i =
-    let r = rule_at p i in
-    (eqb r.season 255 || bit_at seasons r.season) && bit_at weekly r.week
-
--- as the code works it out
-pub applies_by_bits : (p : Program) (weekly seasons i : ℕ) (s w : Bool) → s ≡ bit_at seasons (rule_at p i).season → w ≡ bit_at weekly (rule_at p i).week
-    → ((eqb (rule_at p i).season 255 || s) && w) ≡ applies_at p weekly seasons i
-unfolding applies_at
-applies_by_bits p weekly seasons i s w e f = rw (e, f)
+abbrev pub applies_by : ℕ → ℕ → Rule → Bool
+applies_by weekly seasons r = (eqb r.season 255 || bit_at seasons r.season) && bit_at weekly r.week
 
 -- it makes the force map
 pub force_made : (p : Program) (m : Moment) (date : Date) (weekly seasons : ℕ) → weekly ≡ weekly_map p m → seasons ≡ season_map p date → date ≡ date_of m
-    → mask_of 16 (applies_at p weekly seasons) ≡ force_map p m
-unfolding force_map in_force applies applies_at
+    → mask_of 16 (λ i. applies_by weekly seasons (rule_at p i)) ≡ force_map p m
+unfolding force_map in_force applies
 force_made p m date weekly seasons w s d =
     mask_cong 16 _ _
     (λ i l.

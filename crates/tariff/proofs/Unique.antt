@@ -5,6 +5,7 @@ use Rattle.laws.specs.Unique.{OneResult}
 use Rattle.tariff.specs.Weekly.{place_of}
 use Rattle.tariff.proofs.masks.bit_at.Reads as bit_at_reads
 use Rattle.tariff.proofs.masks.with_bit.Reads as with_bit_reads
+use Rattle.tariff.proofs.masks.mask_of.Reads as mask_of_reads
 use Rattle.tariff.proofs.daily.daily_active.Reads as daily_active_reads
 use Rattle.tariff.proofs.daily.daily_map.Reads as daily_map_reads
 use Rattle.tariff.proofs.weekly.holiday_on.Reads as holiday_on_reads
@@ -46,3 +47,6 @@ force_map_lem κs a x y e f p q = p ∙ sym q
 
 pub force_map_at_lem : OneResult force_map_at_reads.Post
 force_map_at_lem κs a x y e f p q = p ∙ sym q
+
+pub mask_of_lem : (n : ℕ) (fits : _) → OneResult (mask_of_reads.Post n fits)
+mask_of_lem n fits κs a x y e f p q = p ∙ sym q

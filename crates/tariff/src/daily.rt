@@ -2,6 +2,7 @@
 ghost use Rattle.std.specs.Prelude.{◌≡◌};
 ghost use Rattle.tariff.specs.Daily.{in_window, daily_active, daily_map};
 
+use crate::masks::with_bit;
 use crate::{Program, Window};
 
 fn in_window(w: Window, minute: u16) -> bool
@@ -17,16 +18,14 @@ pub fn daily_active(program: Program, rule: u8, minute: u16) -> bool
     if rule >= 32 {
         return false;
     }
-    let mut k: usize = 0;
-    'windows: loop {
-        if k >= 4 {
-            break 'windows false;
+    let at = (rule as usize) * 4;
+    'windows: {
+        for w in &program.windows[at..at + 4] {
+            if in_window(*w, minute) {
+                break 'windows true;
+            }
         }
-        let w = program.windows[(rule as usize) * 4 + k];
-        if in_window(w, minute) {
-            break 'windows true;
-        }
-        k += 1;
+        false
     }
 }
 
@@ -36,10 +35,9 @@ pub fn daily_map(program: Program, minute: u16) -> u32
 {
     let mut map: u32 = 0;
     'rules: for rule in 0..32usize {
-        for k in 0..4usize {
-            let w = program.windows[rule * 4 + k];
-            if in_window(w, minute) {
-                map += 1u32 << rule;
+        for w in &program.windows[rule * 4..rule * 4 + 4] {
+            if in_window(*w, minute) {
+                map = with_bit(map, rule, true);
                 continue 'rules;
             }
         }

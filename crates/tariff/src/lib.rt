@@ -8,7 +8,7 @@ mod seasons;
 mod weekly;
 
 pub use daily::{daily_active, daily_map};
-pub use masks::{bit_at, with_bit};
+pub use masks::{bit_at, mask_of, with_bit};
 pub use rules::{force_map, force_map_at};
 pub use weekly::{holiday_on, weekly_active, weekly_map};
 
@@ -20,21 +20,21 @@ pub struct Window {
 }
 
 // A day of each year.
-#[derive(Clone, Copy)]
+#[derive(Clone, Copy, PartialEq)]
 pub struct Date {
     pub day: u8,
     pub month: u8,
 }
 
 // From the first date to the second, both included; four zeros are unused.
-#[derive(Clone, Copy)]
+#[derive(Clone, Copy, PartialEq)]
 pub struct Season {
     pub first: Date,
     pub second: Date,
 }
 
 // Year 0 is each year; all zeros are unused.
-#[derive(Clone, Copy)]
+#[derive(Clone, Copy, PartialEq)]
 pub struct Holiday {
     pub day: u8,
     pub month: u8,

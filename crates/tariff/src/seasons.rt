@@ -2,29 +2,35 @@
 ghost use Rattle.std.specs.Prelude.{◌≡◌};
 ghost use Rattle.tariff.specs.Seasons.{date_of, not_after, in_season, season_map};
 
-use crate::masks::with_bit;
+use crate::masks::mask_of;
 use crate::{Date, Program, Season};
 use calendar::Moment;
+use std::array;
+
+const NO_DATE: Date = Date { day: 0, month: 0 };
+
+const UNUSED: Season = Season {
+    first: NO_DATE,
+    second: NO_DATE,
+};
 
 // The date a of a year is b or before b.
 fn not_after(a: Date, b: Date) -> bool
     ensures { result ≡ not_after a b }
 {
-    (a.month < b.month) | ((a.month == b.month) & (a.day <= b.day))
+    (a.month, a.day) <= (b.month, b.day)
 }
 
+#[tactic(auto, unfolding(crate::specs::Seasons::in_season))]
 fn in_season(s: Season, date: Date) -> bool
     ensures { result ≡ in_season s date }
 {
-    let first = s.first;
-    let second = s.second;
-    let unused = (first.day == 0) & (first.month == 0) & (second.day == 0) & (second.month == 0);
-    if unused {
+    if s == UNUSED {
         return false;
     }
-    let begun = not_after(first, date);
-    let lasts = not_after(date, second);
-    if not_after(first, second) {
+    let begun = not_after(s.first, date);
+    let lasts = not_after(date, s.second);
+    if not_after(s.first, s.second) {
         return begun & lasts;
     }
     begun | lasts
@@ -34,12 +40,7 @@ fn in_season(s: Season, date: Date) -> bool
 pub(crate) fn season_map(program: Program, date: Date) -> u32
     ensures { result ≡ season_map program date }
 {
-    let mut map: u32 = 0;
-    for i in 0..8usize {
-        let s = program.seasons[i];
-        map = with_bit(map, i, in_season(s, date));
-    }
-    map
+    mask_of::<8>(array::from_fn(|i| in_season(program.seasons[i], date)))
 }
 
 pub(crate) fn date_of(m: Moment) -> Date

@@ -4,9 +4,16 @@ ghost use Rattle.std.specs.Prelude.{◌≡◌};
 ghost use Rattle.tariff.specs.Weekly.{holiday_fits, place_of, first_holiday, column_of, column_on, reference_in, minute_of, weekly_active, weekly_map};
 
 use crate::daily::{daily_active, daily_map};
-use crate::masks::{bit_at, with_bit};
+use crate::masks::{bit_at, mask_of};
 use crate::{Holiday, Program};
 use calendar::Moment;
+use std::array;
+
+const UNUSED: Holiday = Holiday {
+    day: 0,
+    month: 0,
+    year: 0,
+};
 
 fn holiday_fits(h: Holiday, day: u8, month: u8, year: u16) -> bool
     ensures { result ≡ holiday_fits h day month year }
@@ -14,11 +21,10 @@ fn holiday_fits(h: Holiday, day: u8, month: u8, year: u16) -> bool
     if h.day != day {
         return false;
     }
-    let unused = (h.day == 0) & (h.month == 0) & (h.year == 0);
-    !unused & (h.month == month) & ((h.year == 0) | (h.year == year))
+    (h != UNUSED) & (h.month == month) & ((h.year == 0) | (h.year == year))
 }
 
-// The look stops at the first holiday that fits.
+// The look stops at the first holiday that fits. A `loop` that yields its finding by `break` is the owner's form.
 pub fn holiday_on(program: Program, day: u8, month: u8, year: u16) -> Option<usize>
     ensures { place_of result ≡ first_holiday program day month year }
 {
@@ -46,6 +52,7 @@ fn column(weekday: u8, found: Option<usize>) -> u8
     }
 }
 
+#[tactic(auto, unfolding(crate::specs::Weekly::column_on))]
 fn column_on(program: Program, m: Moment) -> u8
     ensures { result ≡ column_on program m }
 {
@@ -56,13 +63,10 @@ fn column_on(program: Program, m: Moment) -> u8
 fn reference(weeks: [u8; 128], week: u8, column: u8) -> u8
     ensures { result ≡ reference_in weeks week column }
 {
-    if week >= 16 {
-        return 255;
+    if week < 16 && column < 8 {
+        return weeks[(week as usize) * 8 + (column as usize)];
     }
-    if column >= 8 {
-        return 255;
-    }
-    weeks[(week as usize) * 8 + (column as usize)]
+    255
 }
 
 fn minute_of(m: Moment) -> u16
@@ -71,11 +75,11 @@ fn minute_of(m: Moment) -> u16
     (m.hour as u16) * 60 + (m.minute as u16)
 }
 
+#[tactic(auto, unfolding(crate::specs::Weekly::weekly_active, crate::specs::Weekly::reference_at))]
 pub fn weekly_active(program: Program, week: u8, m: Moment) -> bool
     ensures { result ≡ weekly_active program week m }
 {
-    let weeks = program.weeks;
-    let rule = reference(weeks, week, column_on(program, m));
+    let rule = reference(program.weeks, week, column_on(program, m));
     daily_active(program, rule, minute_of(m))
 }
 
@@ -85,11 +89,6 @@ pub fn weekly_map(program: Program, m: Moment) -> u16
 {
     let daily = daily_map(program, minute_of(m));
     let column = column_on(program, m);
-    let weeks = program.weeks;
-    let mut map: u32 = 0;
-    for week in 0..16usize {
-        let rule = reference(weeks, week as u8, column);
-        map = with_bit(map, week, bit_at(daily, rule as usize));
-    }
-    map as u16
+    let active = |week| bit_at(daily, reference(program.weeks, week as u8, column) as usize);
+    mask_of::<16>(array::from_fn(active)) as u16
 }

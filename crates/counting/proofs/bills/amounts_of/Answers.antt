@@ -1,17 +1,15 @@
 -- `counting::bills::amounts_of` meets its contract. The loop's invariant: the amounts of the bills before j.
 use mathlib.Core.Path.{refl}
-use native.Mathlib.Omega.{arith}
-use borrow.Author.Rules.{rules}
 use Rattle.laws.proofs.Tables.{fill_none, fill_more, fill_done}
 use Rattle.counting.specs.ByMask.{amounts_of}
 use Rattle.counting.proofs.bills.amounts_of.Goals as goal
 
 pub loop-j-init : goal.loop-j-init
-loop-j-init c = (search rules, fill_none _ _)
+loop-j-init c = fill_none _ _
 
 pub loop-j-preserved : goal.loop-j-preserved
-loop-j-preserved c = (omega arith, fill_more _ _ _ _ _ c.loop-j.invariant.1 refl)
+loop-j-preserved c = fill_more _ _ _ _ _ c.loop-j.invariant refl
 
 pub returns : goal.returns
 unfolding amounts_of
-returns c = fill_done _ 16 _ _ _ c.loop-j.invariant.1 c.loop-j.invariant.0 c.loop-j-test.false refl
+returns c = fill_done _ 16 _ _ _ c.loop-j.invariant c.loop-j.auto.j-end c.loop-j-test.false refl

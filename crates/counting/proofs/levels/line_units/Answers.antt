@@ -1,17 +1,10 @@
--- `counting::levels::line_units` meets its contract. The loop's invariant: level 0 of the inputs before i.
-use mathlib.Core.Path.{refl}
-use native.Mathlib.Omega.{arith}
+-- `counting::levels::line_units` meets its contract: the closure gives a line's units.
 use borrow.Author.Rules.{rules}
-use Rattle.laws.proofs.Tables.{fill_none, fill_more, fill_done}
+use Rattle.counting.proofs.Made.{made_table}
 use Rattle.counting.specs.Levels.{level0}
+use Rattle.counting.specs.Filter.{line_at}
 use Rattle.counting.proofs.levels.line_units.Goals as goal
-
-pub loop-i-init : goal.loop-i-init
-loop-i-init c = (search rules, fill_none _ _)
-
-pub loop-i-preserved : goal.loop-i-preserved
-loop-i-preserved c = (omega arith, fill_more _ _ _ _ _ c.loop-i.invariant.1 refl)
 
 pub returns : goal.returns
 unfolding level0
-returns c = fill_done _ 16 _ _ _ c.loop-i.invariant.1 c.loop-i.invariant.0 c.loop-i-test.false refl
+returns c = made_table _ _ (λ i. (line_at c.args.lines i).units) (λ i y q k. search rules) _ 16 c.from_fn.ensures.items

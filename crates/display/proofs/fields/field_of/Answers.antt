@@ -1,59 +1,60 @@
 -- `display::fields::field_of` meets its contract: the register request's bytes are those that the definition reads, and the field lies within them.
-use mathlib.Core.Path.{◌≡◌, sym, ◌∙◌}
+use mathlib.Core.Path.{◌≡◌, ◌∙◌}
 use mathlib.Core.List.{List}
-use Prim.Native.Nat.{ℕ, ◌≤◌, ◌<◌}
+use Prim.Native.Nat.{ℕ, ◌<◌}
 use native.Mathlib.Omega.{arith}
-use lib.ListN.{get_or}
-use Rattle.laws.specs.Tables.{table}
-use Rattle.laws.specs.Total.{total}
-use Rattle.display.specs.Fields.{start_of}
-use Rattle.display.proofs.Registered.{widths, field_refused, field_none, field_fits, field_few, field_some, no_seventh, start_by_table, bytes_by_table}
+use lib.ListN.{length, get_or, take, length-take}
+use Rattle.std.specs.Prelude.{sum}
+use Rattle.display.specs.Fields.{field_bytes, start_of}
+use Rattle.display.proofs.Registered.{widths, six_fields, field_refused, field_sized, field_few, field_fits, field_some, widths_before}
 use Rattle.display.proofs.fields.field_of.Goals as goal
 
-pub returns-in_default : goal.returns-in_default
-returns-in_default c =
+pub returns-in_err-ok : goal.returns-in_err-ok
+returns-in_err-ok c =
     let a = c.args in
-    field_refused a.recorder a.group a.register c.read_register-answer.result _ c.read_register-answer.ensures a.field c.in_default.not-Ok
+    rw c.from_residual.ensures (field_refused a.recorder a.group a.register _ _ c.read_register.ensures a.field c.in_err-ok.ensures.value)
 
-pub returns-then-k-ge6 : goal.returns-then-k-ge6
-returns-then-k-ge6 c =
+-- the field is there, how many bytes it has, and where it begins
+module _ (l : List ℕ) (group field n : ℕ) (e : l ≡ field_bytes group) (h : (field < length l) × ((d : ℕ) → n ≡ get_or l field d)) where
+  there : field < length (field_bytes group)
+  there = let t = h.0 in rw e at t
+
+  size : n ≡ widths group field
+  size = let t = h.1 0 in rw e at t
+
+  begins : (start : ℕ) → start ≡ sum (take field l) → start ≡ start_of group field
+  begins start is = (rw e at is) ∙ widths_before (field_bytes group) field (omega (arith, there))
+
+pub start_of-requires : goal.start_of-requires
+start_of-requires c =
     let a = c.args in
-    field_none a.recorder a.group a.register _ _ c.read_register-answer.ensures a.field _ c.in-Ok.is (no_seventh a.group a.field c.if-k-ge6.true)
-
--- how many bytes the field has
-size : (bytes : List ℕ) (group field : ℕ) → bytes ≡ table 6 (λ k. widths group k) → field < 6 → get_or bytes field 0 ≡ widths group field
-size bytes group field e low = rw e (bytes_by_table group field low)
-
--- where it begins
-start : (bytes : List ℕ) (group field n : ℕ) → bytes ≡ table 6 (λ k. widths group k) → field < 6 → n ≡ total field (λ j. get_or bytes j 0) → n ≡ start_of group field
-start bytes group field n e low is = is ∙ rw e (start_by_table group field low)
-
-pub returns-then-n-eq0 : goal.returns-then-n-eq0
-returns-then-n-eq0 c =
-    let a = c.args in
-    let s = size _ a.group a.field c.field_bytes-bytes.ensures c.if-k-ge6.false in
-    field_none a.recorder a.group a.register _ _ c.read_register-answer.ensures a.field _ c.in-Ok.is (sym s ∙ c.if-n-eq0.true)
+    let few = length-take a.field (field_bytes a.group) in
+    rw c.field_bytes-widths.ensures (omega (arith, six_fields a.group))
 
 pub number_in-number-requires : goal.number_in-number-requires
 number_in-number-requires c =
     let a = c.args in
-    let low = c.if-k-ge6.false in
-    let s = size c.field_bytes-bytes.result a.group a.field c.field_bytes-bytes.ensures low in
-    let b = start c.field_bytes-bytes.result a.group a.field c.start_of.result c.field_bytes-bytes.ensures low c.start_of.ensures in
-    rw (b, s) (field_fits a.recorder a.group a.register _ _ c.read_register-answer.ensures a.field _ c.in-Ok.is low, field_few a.group a.field)
+    let e = c.field_bytes-widths.ensures in
+    let h = c.in_ok-n.ensures.lookup.3 in
+    let low : a.field < 6 = omega (arith, there _ _ _ _ e h, six_fields a.group) in
+    rw (begins _ _ _ _ e h _ c.start_of.ensures, size _ _ _ _ e h)
+    (field_fits a.recorder a.group a.register _ _ c.read_register.ensures a.field _ c.in_ok-ok.ensures.value low, field_few a.group a.field)
 
 pub value_of-requires : goal.value_of-requires
 value_of-requires c =
     let a = c.args in
-    let s = size c.field_bytes-bytes.result a.group a.field c.field_bytes-bytes.ensures c.if-k-ge6.false in
-    let few : get_or c.field_bytes-bytes.result a.field 0 ≤ 8 = rw s (field_few a.group a.field) in
-    (omega (arith, c.if-n-eq0.false), few, c.number_in-number.ensures.1)
+    let e = c.field_bytes-widths.ensures in
+    let h = c.in_ok-n.ensures.lookup.3 in
+    let sized = field_sized a.group a.field (there _ _ _ _ e h) in
+    let size = size _ _ _ _ e h in
+    (omega (arith, sized.0), omega (arith, sized.1), c.number_in-number.ensures.1)
 
 pub returns : goal.returns
 returns c =
     let a = c.args in
-    let low = c.if-k-ge6.false in
-    let s = size c.field_bytes-bytes.result a.group a.field c.field_bytes-bytes.ensures low in
-    let b = start c.field_bytes-bytes.result a.group a.field c.start_of.result c.field_bytes-bytes.ensures low c.start_of.ensures in
-    rw (c.value_of.ensures, c.is_signed.ensures, c.number_in-number.ensures.0, b, s)
-    (field_some a.recorder a.group a.register _ _ c.read_register-answer.ensures a.field _ c.in-Ok.is low (λ z. c.if-n-eq0.false (s ∙ z)))
+    let e = c.field_bytes-widths.ensures in
+    let h = c.in_ok-n.ensures.lookup.3 in
+    let low : a.field < 6 = omega (arith, there _ _ _ _ e h, six_fields a.group) in
+    let sized = field_sized a.group a.field (there _ _ _ _ e h) in
+    rw (c.value_of.ensures, c.is_signed.ensures, c.number_in-number.ensures.0, begins _ _ _ _ e h _ c.start_of.ensures, size _ _ _ _ e h)
+    (field_some a.recorder a.group a.register _ _ c.read_register.ensures a.field _ c.in_ok-ok.ensures.value low (λ z. omega (arith, sized.0)))

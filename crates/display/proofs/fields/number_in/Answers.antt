@@ -1,53 +1,48 @@
--- `display::fields::number_in` meets its contract. The loop's invariant: the number so far is that of the bytes from here on.
-use mathlib.Core.Path.{◌≡◌, refl, sym, ◌∙◌}
-use Prim.Native.Nat.{ℕ, suc, ◌+◌, ◌-◌, ◌^◌, ◌≤◌}
-use native.Mathlib.Nat.{pow-suc, pow-le-pow_right}
+-- `display::fields::number_in` meets its contract: zeros behind a number's bytes change nothing.
+use mathlib.Core.Path.{◌≡◌, refl, ap, ◌∙◌}
+use mathlib.Core.List.{List, [], ◌∷◌, ◌++◌}
+use Prim.Native.Nat.{ℕ, zero, suc, ◌+◌, ◌-◌, ◌*◌, ◌≤◌}
+use native.Mathlib.Nat.{not-suc-le-zero}
 use native.Mathlib.Omega.{arith}
-use mir.Syntax.{w8}
+use mir.Syntax.{w8, w64}
 use mir.Val.{Fits}
-use lib.ListN.{get_or}
+use lib.ListN.{length, get_or, take, drop, replicate, length-drop}
+use Rattle.std.specs.Int.{from_le_bytes}
+use Rattle.std.proofs.lemmas.List.{drop-replicate}
 use Rattle.laws.specs.Bytes.{le}
 use Rattle.laws.proofs.Arrays.{elem_fits}
-use Rattle.laws.proofs.Bytes.{le_turn}
+use Rattle.laws.proofs.Bytes.{le_turn, le_1, le_below, bytes_drop}
 use Rattle.display.proofs.fields.number_in.Goals as goal
 
-pub loop-k-init : goal.loop-k-init
+-- what is behind the bytes of a number does not count where it is zero
+zeros : (k m : ℕ) → le k (replicate m 0) ≡ 0
 unfolding le
-loop-k-init c = let n = c.args.n in let z : n - n ≡ 0 = omega arith in (omega arith, rw z refl, rw z (omega arith))
+zeros zero m = refl
+zeros (suc k) zero = omega (arith, zeros k zero)
+zeros (suc k) (suc m) = omega (arith, zeros k m)
 
--- each is one byte
-known : (c : goal.Start) (i : ℕ) → Fits w8 (get_or c.args.bytes i 0)
-known c i = search elem_fits
+before_zeros : (n k m : ℕ) (s : List ℕ) → n ≤ length s → le (n + k) (take n s ++ replicate m 0) ≡ le n s
+unfolding le
+before_zeros zero k m s h = let e : 0 + k ≡ k = omega arith in rw e (zeros k m)
+before_zeros (suc n) k m [] h = absurd (not-suc-le-zero h)
+before_zeros (suc n) k m (b ∷ s) h =
+    let e : suc n + k ≡ suc (n + k) = omega arith in rw e (ap (λ x. b + 256 * x) (before_zeros n k m s (omega arith)))
 
--- fewer than 8 bytes so far
-small : (d : ℕ) → d ≤ 7 → 256 ^ d ≤ 256 ^ 7
-small d h = pow-le-pow_right {n = 256} (omega arith) {i = d} {j = 7} h
-
-pub overflow_mul-number : goal.overflow_mul-number
-overflow_mul-number c = let p = small (c.args.n - c.loop-k.k) (omega arith) in record { fits = omega arith }
-
-pub overflow_add-number-in-loop-k : goal.overflow_add-number-in-loop-k
-overflow_add-number-in-loop-k c =
-    let p = small (c.args.n - c.loop-k.k) (omega arith) in
-    let b = (known c.before.before (c.args.start + (c.loop-k.k - 1))).fits in
-    record { fits = omega arith }
-
-pub loop-k-preserved : goal.loop-k-preserved
-loop-k-preserved c =
-    let l = c.loop-k in
-    let a = c.args in
-    let at : ℕ = a.start + (l.k - 1) in
-    let b = (known c.before.before at).fits in
-    let more : a.n - (l.k - 1) ≡ suc (a.n - l.k) = omega arith in
-    let next : at + 1 ≡ a.start + l.k = omega arith in
-    let turn = le_turn (a.n - l.k) at a.bytes in
-    (omega arith, rw (more) (sym (turn ∙ rw (next, ← l.invariant.1) (omega arith))), rw (more, pow-suc 256 (a.n - l.k)) (omega arith))
+-- eight bytes are the same number to the library
+eight : (b : List ℕ) → from_le_bytes w64 b ≡ le 8 b
+eight b =
+    omega (arith, le_turn 7 0 b, le_turn 6 1 b, le_turn 5 2 b, le_turn 4 3 b, le_turn 3 4 b, le_turn 2 5 b, le_turn 1 6 b, le_1 b 7)
 
 pub returns : goal.returns
 returns c =
-    let l = c.loop-k in
     let a = c.args in
-    let none : l.k ≡ 0 = omega arith in
-    let all : a.n - 0 ≡ a.n = omega arith in
-    let start : a.start + 0 ≡ a.start = omega arith in
-    (l.invariant.1 ∙ rw (none, all, start) refl, rw (none, all) at l.invariant.2)
+    let s = drop a.start a.bytes in
+    let known : (i : ℕ) → Fits w8 (get_or a.bytes i 0) = λ i. search elem_fits in
+    let long = length-drop a.start a.bytes in
+    let part : c.copy_from_slice.new.self ≡ take a.n s = c.copy_from_slice.ensures.after ∙ ap (λ k. take k s) (omega arith) in
+    let rest = drop-replicate {X = ℕ} a.n 8 0 in
+    let whole : 8 ≡ a.n + (8 - a.n) = omega arith in
+    let padded : le 8 (take a.n s ++ replicate (8 - a.n) 0) ≡ le a.n s =
+    ap (λ k. le k (take a.n s ++ replicate (8 - a.n) 0)) whole ∙ before_zeros a.n (8 - a.n) (8 - a.n) s (omega arith) in
+    let number : c.from_le_bytes.result ≡ le a.n s = c.from_le_bytes.ensures ∙ eight (c.copy_from_slice.new.self ++ drop a.n (replicate 8 0)) ∙ rw (part, rest) padded in
+    (number, rw number (le_below a.n s (bytes_drop a.start a.bytes (λ i. (known i).fits))))

@@ -2,13 +2,14 @@
 use mathlib.Core.Path.{◌≡◌, refl, ap, ◌∙◌}
 use mathlib.Core.Bool.{true}
 use Prim.Native.Nat.{ℕ, zero, suc, ◌+◌, ◌-◌, ◌*◌, ◌/◌, ◌^◌, ◌≤◌}
-use native.Mathlib.Nat.{pow-suc, pow-le-pow_right}
+use native.Mathlib.Nat.{pow-suc}
 use native.Mathlib.Omega.{arith}
-use borrow.Author.Tests.{le-leb, lt-leb, ltb-true, ltb-false}
+use borrow.Author.Tests.{le-leb, lt-leb, lt-ltb, le-ltb, ltb-true, ltb-false}
 use lib.Dec.{ltb, leb}
-use Rattle.laws.proofs.Tests.{by_test, and_right}
+use Rattle.laws.proofs.Tests.{by_test}
 use Rattle.display.specs.Fields.{signed_value}
 use Rattle.display.proofs.fields.value_of.Goals as goal
+use Rattle.display.proofs.fields.value_of.Goals.{else-signed-via-then-signed+else-most-number, else-signed-via-else-signed}
 
 -- half of what some bytes can hold
 half : (n most x : ℕ) → 1 ≤ n → most + 1 ≡ 256 ^ n → leb (256 ^ n / 2) x ≡ ltb (most / 2) x
@@ -19,23 +20,17 @@ half (suc n) most x h e =
     (by_test (ltb (most / 2) x) (λ t. let l = ltb-true (most / 2) x t in rw (t, le-leb (256 ^ n * 256 / 2) x (omega arith)) refl)
     (λ t. let l = ltb-false (most / 2) x t in rw (t, lt-leb (256 ^ n * 256 / 2) x (omega arith)) refl))
 
--- the size of a negative number
-size : (c : goal.Then-signed-most) → let a = c.args in let most = c.most_of-most.result in most - a.number + 1 ≡ 256 ^ a.n - a.number
-size c = let e = c.most_of-most.ensures in omega (arith, c.requires.2)
-
-pub overflow_add-result : goal.overflow_add-result
-overflow_add-result c =
-    let a = c.args in
-    let most = c.most_of-most.result in
-    let some = ltb-true (most / 2) a.number (and_right a.signed (ltb (most / 2) a.number) c.if-signed-most.true) in
-    let e = c.most_of-most.ensures in
-    let p : 256 ^ a.n ≤ 256 ^ 8 = pow-le-pow_right {n = 256} (omega arith) {i = a.n} {j = 8} c.requires.1 in
-    record { fits = omega arith }
-
-pub returns-then-signed-most : goal.returns-then-signed-most
+pub returns-then-most-number : goal.returns-then-most-number
 unfolding signed_value
-returns-then-signed-most c = rw (half _ _ _ c.requires.0 c.most_of-most.ensures, c.if-signed-most.true) (ap (λ (x : ℕ). record { minus = true; size = x }) (size c))
+returns-then-most-number c =
+    let a = c.args in
+    let size : c.most_of-most.result - a.number + 1 ≡ 256 ^ a.n - a.number = omega (arith, c.most_of-most.ensures, c.requires.2) in
+    rw (half _ _ _ c.requires.0 c.most_of-most.ensures, c.if-signed.true, lt-ltb _ _ c.if-most-number.true) (ap (λ (x : ℕ). record { minus = true; size = x }) size)
 
 pub returns : goal.returns
 unfolding signed_value
-returns c = rw (half _ _ _ c.requires.0 c.most_of-most.ensures, c.if-signed-most.false)
+returns c =
+    elim c.else-signed.branch [
+      | else-signed-via-then-signed+else-most-number w ↦ rw (half _ _ _ c.requires.0 c.most_of-most.ensures, w.if-signed.true, le-ltb _ _ w.if-most-number.false)
+      | else-signed-via-else-signed w ↦ rw w.if-signed.false
+    ]

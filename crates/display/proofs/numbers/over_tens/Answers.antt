@@ -1,22 +1,18 @@
--- `display::numbers::over_tens` meets its contract. The loop's invariant: the number over as many tens.
-use mathlib.Core.Path.{◌≡◌, sym, ◌∙◌}
-use Prim.Native.Nat.{◌^◌}
-use native.Mathlib.Nat.{pow-suc, div-div-eq-div-mul, div-one}
-use native.Mathlib.Numerals.{add-one}
+-- `display::numbers::over_tens` meets its contract: a power of ten that is past 64 bits is past every number.
+use mathlib.Core.Path.{sym}
+use Prim.Native.Nat.{◌^◌, ◌<◌, zero-le}
+use native.Mathlib.Nat.{div-eq_of_lt, pow-le-pow_right}
 use native.Mathlib.Omega.{arith}
 use Rattle.display.proofs.numbers.over_tens.Goals as goal
 
-pub loop-init : goal.loop-init
-loop-init c = (omega arith, sym (div-one _))
+pub nonzero_div-result : goal.nonzero_div-result
+nonzero_div-result c = rw c.in-Some.ensures.1 (pow-le-pow_right {n = 10} (omega arith) {i = 0} {j = c.from.result} zero-le)
 
-pub loop-preserved : goal.loop-preserved
-loop-preserved c =
-    let l = c.loop in
+pub returns-in-Some : goal.returns-in-Some
+returns-in-Some c = rw (c.in-Some.ensures.1, c.from.ensures)
+
+pub returns-in-None : goal.returns-in-None
+returns-in-None c =
     let n = c.args.n in
-    (omega arith, rw (l.invariant.1, add-one l.counter, pow-suc 10 l.counter) (div-div-eq-div-mul n (10 ^ l.counter) 10))
-
-pub returns : goal.returns
-returns c =
-    let l = c.loop in
-    let all : l.counter ≡ c.args.k = omega arith in
-    l.invariant.1 ∙ rw all
+    let past : n < 10 ^ c.from.result = omega (arith, c.in-None.ensures, c.ranges.n.fits) in
+    rw (← c.from.ensures) (sym (div-eq_of_lt past))

@@ -4,9 +4,10 @@ use mathlib.Core.List.{append_assoc}
 use borrow.Author.Rules.{rules}
 use Rattle.laws.proofs.Arrays.{length_mapped}
 use Rattle.laws.proofs.Codec.{section_wide, number}
-use Rattle.image.specs.Image.{head_bytes, program_bytes, encode, Counted}
-use Rattle.image.proofs.Entries.{input, coefficient, slot, window, season, holiday, rule, register}
-use Rattle.image.proofs.Sections.{Begun, more_of}
+use Rattle.image.specs.Image.{head_bytes, encode, Counted}
+use Rattle.image.proofs.Entries.{input, coefficient, slot, register}
+use Rattle.image.proofs.Lengths.{length_program}
+use Rattle.image.proofs.Sections.{Begun, more_of, followed}
 use Rattle.image.proofs.write.config.Goals as goal
 use Rattle.image.proofs.write.config.Goals.{Start}
 
@@ -14,7 +15,7 @@ counted : (c : Start) → Counted c.args.c
 counted c = search (rules, length_mapped)
 
 pub returns : goal.returns
-unfolding head_bytes program_bytes encode
+unfolding head_bytes encode
 returns c =
     let n = counted (goal.at.returns c).Start in
     let head : Begun c.args.bytes.now _ (head_bytes c.args.c.period) 6 = record { wide = refl; is = rw c.copy_from_slice.ensures.after } in
@@ -23,10 +24,6 @@ returns c =
     let coefficients = more_of sums _ 32 (section_wide coefficient _ n.coefficients) c.section-3.ensures in
     let slots = more_of coefficients _ 32 (section_wide slot _ n.slots) c.section-4.ensures in
     let limits = more_of slots _ 64 (section_wide (number 2) _ n.limits) c.section-5.ensures in
-    let windows = more_of limits _ 512 (section_wide window _ n.program.windows) c.section-6.ensures in
-    let weeks = more_of windows _ 128 (section_wide (number 1) _ n.program.weeks) c.section-7.ensures in
-    let seasons = more_of weeks _ 32 (section_wide season _ n.program.seasons) c.section-8.ensures in
-    let holidays = more_of seasons _ 128 (section_wide holiday _ n.program.holidays) c.section-9.ensures in
-    let rules = more_of holidays _ 32 (section_wide rule _ n.program.rules) c.section-10.ensures in
-    let registers = more_of rules _ 32 (section_wide register _ n.registers) c.section-11.ensures in
+    let program = followed limits _ 832 (length_program _ n.program) c.program.ensures in
+    let registers = more_of program _ 32 (section_wide register _ n.registers) c.section-6.ensures in
     rw registers.is (simp append_assoc)

@@ -1,13 +1,9 @@
 -- `tariff::weekly::holiday_on` meets its contract. The loop's invariant: no holiday before i fits.
 use mathlib.Core.Path.{sym, ◌∙◌}
 use native.Mathlib.Omega.{arith}
-use borrow.Author.Count.{below_none, below_more}
-use borrow.Author.Rules.{rules}
+use borrow.Author.Count.{below_more}
 use Rattle.tariff.proofs.Found.{holiday_found, holiday_none}
 use Rattle.tariff.proofs.weekly.holiday_on.Goals as goal
-
-pub loop-i-init : goal.loop-i-init
-loop-i-init c = (search rules, below_none _)
 
 pub loop-i-preserved : goal.loop-i-preserved
 loop-i-preserved c = (omega arith, below_more _ _ c.loop-i.invariant.1 (sym c.holiday_fits.ensures ∙ c.if-holiday_fits.false))

@@ -6,7 +6,6 @@ ghost use Rattle.counting.specs.ByMask.{masked_units, Below, added_units, fed_re
 use crate::Bill;
 use crate::bits::Bits;
 use settings::Register;
-use std::array;
 use tariff::{bit_at, with_bit};
 
 fn part(on: bool, units: u32) -> u64
@@ -29,12 +28,14 @@ pub(crate) fn sum_units(sum: u16, units: [u32; 16]) -> u64
     all
 }
 
-// The totals with the units of input i added to each sum that names it.
-fn with_units(totals: [u64; 8], sums: [u16; 8], i: usize, units: u32) -> [u64; 8]
-    requires { Below totals }
-    ensures { result ≡ added_units totals sums i units }
+// Adds the units of input i to each sum that names it.
+fn add_units(totals: &mut [u64; 8], sums: [u16; 8], i: usize, units: u32)
+    requires { Below totals.old }
+    ensures { totals.new ≡ added_units totals.old sums i units }
 {
-    array::from_fn(|k| totals[k] + part(bit_at(sums[k] as u32, i), units))
+    for (k, total) in totals.iter_mut().enumerate() {
+        *total += part(bit_at(sums[k] as u32, i), units);
+    }
 }
 
 // The units that the inputs of a mask bring to the sums. Few inputs bring units with a sample, so these are gone through and not the sums.
@@ -43,8 +44,7 @@ pub fn sums_units(sums: [u16; 8], units: [u32; 16], mask: u16) -> [u64; 8]
 {
     let mut totals = [0u64; 8];
     for i in Bits(mask) {
-        let more = with_units(totals, sums, i, units[i]);
-        totals = more;
+        add_units(&mut totals, sums, i, units[i]);
     }
     totals
 }

@@ -57,14 +57,14 @@ fn add_due(amounts: &mut [u32; 16], registers: [Register; 16], fed: u16, sums: &
 // Books the units that the lines of a mask bring with a sample. Where a register would be full, no amount changes.
 fn book(
     amounts: &mut [u32; 16],
-    config: Config,
+    config: &Config,
     fed: u16,
     ending: u16,
     units: [u32; 16],
 ) -> Result<(), SampleError>
     requires { Within units ending }
-    ensures full { result ≡ refused_full (some_full config.registers amounts.old fed (sums_of config.sums units)) }
-    ensures amounts { amounts.new ≡ amounts_booked config.registers amounts.old fed (sums_of config.sums units) }
+    ensures full { result ≡ refused_full (some_full config.now.registers amounts.old fed (sums_of config.now.sums units)) }
+    ensures amounts { amounts.new ≡ amounts_booked config.now.registers amounts.old fed (sums_of config.now.sums units) }
 {
     let registers = config.registers;
     let sums = sums_units(config.sums, units, ending);
@@ -88,11 +88,11 @@ fn restore(lines: &mut [Line; 16], before: &[Line; 16], mask: u16)
 pub(crate) fn end_runs(
     lines: &mut [Line; 16],
     amounts: &mut [u32; 16],
-    config: Config,
+    config: &Config,
     fed: u16,
     ending: u16,
 ) -> Result<(), SampleError>
-    ensures { ended_said result lines.new amounts.new ≡ ended_of config fed lines.old amounts.old ending }
+    ensures { ended_said result lines.new amounts.new ≡ ended_of config.now fed lines.old amounts.old ending }
 {
     let mut before = [Line {
         run: 0,

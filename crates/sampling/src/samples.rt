@@ -132,7 +132,7 @@ pub fn take(config: Config, start: State, bits: &[u16]) -> Lap
         let ending = running ^ (running & active);
         if ending > 0 {
             let fed = fed_by(config, clock, &mut tariffs);
-            if let Err(error) = end_runs(&mut lines, &mut amounts, config, fed, ending) {
+            if let Err(error) = end_runs(&mut lines, &mut amounts, &config, fed, ending) {
                 answer = Err(error);
                 break;
             }

@@ -10,7 +10,7 @@ pub returns-then-some_full : goal.returns-then-some_full
 unfolding amounts_booked
 returns-then-some_full c =
     let a = c.args in
-    let sums : c.sums_units-sums.result ≡ sums_of a.config.sums a.units = c.sums_units-sums.ensures ∙ ap (sums_of a.config.sums) (own_units a.units a.ending (search rules) c.requires) in
+    let sums : c.sums_units-sums.result ≡ sums_of a.config.now.sums a.units = c.sums_units-sums.ensures ∙ ap (sums_of a.config.now.sums) (own_units a.units a.ending (search rules) c.requires) in
     let e = sym c.if-some_full.true ∙ c.some_full.ensures ∙ ap (some_full _ _ _) sums in
     record { full = rw (← e); amounts = rw (← e) }
 
@@ -20,7 +20,7 @@ add_due-requires c = sym c.some_full.ensures ∙ c.if-some_full.false
 pub returns : goal.returns
 returns c =
     let a = c.args in
-    let sums : c.sums_units-sums.result ≡ sums_of a.config.sums a.units = c.sums_units-sums.ensures ∙ ap (sums_of a.config.sums) (own_units a.units a.ending (search rules) c.requires) in
+    let sums : c.sums_units-sums.result ≡ sums_of a.config.now.sums a.units = c.sums_units-sums.ensures ∙ ap (sums_of a.config.now.sums) (own_units a.units a.ending (search rules) c.requires) in
     let e = sym c.if-some_full.false ∙ c.some_full.ensures ∙ ap (some_full _ _ _) sums in
     record {
       full = rw (← e);

@@ -58,34 +58,34 @@ returns-then-brought-eq0 c =
     let h = c.loop-i.invariant in
     let z = c.in-None.ensures.steps in
     let none : Nothing c.loop-i.units = h.3 c.if-brought-eq0.true in
-    let units = brings a.config.inputs a.lines.now a.ending _ _ z h.1 in
-    rw (settles a.config.inputs a.lines.now a.ending _ _ z h.0)
-    (ended_nothing a.config a.fed a.lines.now a.amounts.now a.ending (rw units at none) c.told-amounts)
+    let units = brings a.config.now.inputs a.lines.now a.ending _ _ z h.1 in
+    rw (settles a.config.now.inputs a.lines.now a.ending _ _ z h.0)
+    (ended_nothing a.config.now a.fed a.lines.now a.amounts.now a.ending (rw units at none) c.told-amounts)
 
 pub book-booked-requires : goal.book-booked-requires
 book-booked-requires c =
     let a = c.args in
-    λ i l e. rw (brings a.config.inputs a.lines.now a.ending _ _ c.in-None.ensures.steps c.loop-i.invariant.1) (others_none a.config.inputs a.lines.now a.ending i l e)
+    λ i l e. rw (brings a.config.now.inputs a.lines.now a.ending _ _ c.in-None.ensures.steps c.loop-i.invariant.1) (others_none a.config.now.inputs a.lines.now a.ending i l e)
 
 pub returns-then-is_err : goal.returns-then-is_err
 returns-then-is_err c =
     let a = c.args in
     let h = c.loop-i.invariant in
     let z = c.in-None.ensures.steps in
-    let units = brings a.config.inputs a.lines.now a.ending _ _ z h.1 in
+    let units = brings a.config.now.inputs a.lines.now a.ending _ _ z h.1 in
     let e = c.book-booked.ensures in
     let err : is_err c.book-booked.result ≡ true = sym c.is_err.ensures.value ∙ c.if-is_err.true in
     let as_they_were = c.restore.ensures ∙ put_back a.lines.now c.loop-i.lines c.loop-i.before _ blank a.ending c.told-lines (half_done _ _ _ z h.0) (half_done _ _ _ z h.2) in
     rw as_they_were
-    (rw err at (ended_booked a.config a.fed a.lines.now a.amounts.now a.ending c.loop-i.units _ _ units e.full e.amounts))
+    (rw err at (ended_booked a.config.now a.fed a.lines.now a.amounts.now a.ending c.loop-i.units _ _ units e.full e.amounts))
 
 pub returns-else-is_err : goal.returns-else-is_err
 returns-else-is_err c =
     let a = c.args in
     let h = c.loop-i.invariant in
     let z = c.in-None.ensures.steps in
-    let units = brings a.config.inputs a.lines.now a.ending _ _ z h.1 in
+    let units = brings a.config.now.inputs a.lines.now a.ending _ _ z h.1 in
     let e = c.book-booked.ensures in
     let fine : is_err c.book-booked.result ≡ false = sym c.is_err.ensures.value ∙ c.if-is_err.false in
-    rw (settles a.config.inputs a.lines.now a.ending _ _ z h.0)
-    (rw fine at (ended_booked a.config a.fed a.lines.now a.amounts.now a.ending c.loop-i.units _ _ units e.full e.amounts))
+    rw (settles a.config.now.inputs a.lines.now a.ending _ _ z h.0)
+    (rw fine at (ended_booked a.config.now a.fed a.lines.now a.amounts.now a.ending c.loop-i.units _ _ units e.full e.amounts))

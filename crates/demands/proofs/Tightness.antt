@@ -49,6 +49,7 @@ tight =
       image_write_image = (image.write_image, (image.write_image_exit, λ κs args. tt));
       image_write_then_read = (image.write_then_read, λ κs args. tt);
       image_read_then_write = (image.read_then_write, λ κs args. tt);
+      counting_next = (counting.next_once, (counting.next_exit, λ κs args. tt));
       counting_advance = (counting.advance_exit, λ κs args. tt);
       counting_kind_mask = (counting.kind_mask_lem, λ κs args. tt);
       counting_running_lines = (counting.running_lines_lem, λ κs args. tt);

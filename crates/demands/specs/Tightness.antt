@@ -25,6 +25,7 @@ use Rattle.image.proofs.check_image.Reads as image_check_image
 use Rattle.image.proofs.write_image.Reads as image_write_image
 use Rattle.image.proofs.write_then_read.Reads as image_write_then_read
 use Rattle.image.proofs.read_then_write.Reads as image_read_then_write
+use Rattle.counting.proofs.bits.BitsIterator.next.Reads as counting_next
 use Rattle.counting.proofs.filter.advance.Reads as counting_advance
 use Rattle.counting.proofs.filter.kind_mask.Reads as counting_kind_mask
 use Rattle.counting.proofs.filter.running_lines.Reads as counting_running_lines
@@ -145,6 +146,7 @@ pub record Tight : Type 1 where
   pub image_write_then_read : Alone image_write_then_read.Post image_write_then_read.Asked
   pub image_read_then_write : Alone image_read_then_write.Post image_read_then_write.Asked
   -- crate counting
+  pub counting_next : AloneAndLent (λ κs e. e.0.now.0 ∷ []) counting_next.Post counting_next.Asked
   pub counting_advance : Lent (λ κs e. e.0.now ∷ []) counting_advance.Post counting_advance.Asked
   pub counting_kind_mask : Alone counting_kind_mask.Post counting_kind_mask.Asked
   pub counting_running_lines : Alone counting_running_lines.Post counting_running_lines.Asked

@@ -18,4 +18,4 @@ loop-i-preserved c =
     (past_turn a.sums a.units a.mask step h.0, c.add_units.ensures ∙ sums_turn a.sums a.units a.mask step h.0 _ h.1)
 
 pub returns : goal.returns
-returns c = let a = c.args in let h = c.loop-i.invariant in sums_done a.sums a.units a.mask _ _ c.in-None.ensures.steps h.0 h.1
+returns c = let a = c.args in let h = c.loop-i.invariant in sums_done a.sums a.units a.mask _ _ c.in-None.ensures.steps.0 h.0 h.1

@@ -24,4 +24,4 @@ loop-j-preserved c =
     step_done step h (c.with_due.ensures ∙ rw (c.register_units.ensures, step_old step h 0))
 
 pub returns : goal.returns
-returns c = half_done _ _ _ c.in-None.ensures.steps c.loop-j.invariant ∙ booked_of_fed _ _ _ _ c.requires
+returns c = half_done _ _ _ c.in-None.ensures.steps.0 c.loop-j.invariant ∙ booked_of_fed _ _ _ _ c.requires

@@ -56,7 +56,7 @@ pub returns-then-brought-eq0 : goal.returns-then-brought-eq0
 returns-then-brought-eq0 c =
     let a = c.args in
     let h = c.loop-i.invariant in
-    let z = c.in-None.ensures.steps in
+    let z = c.in-None.ensures.steps.0 in
     let none : Nothing c.loop-i.units = h.3 c.if-brought-eq0.true in
     let units = brings a.config.now.inputs a.lines.now a.ending _ _ z h.1 in
     rw (settles a.config.now.inputs a.lines.now a.ending _ _ z h.0)
@@ -65,13 +65,13 @@ returns-then-brought-eq0 c =
 pub book-booked-requires : goal.book-booked-requires
 book-booked-requires c =
     let a = c.args in
-    λ i l e. rw (brings a.config.now.inputs a.lines.now a.ending _ _ c.in-None.ensures.steps c.loop-i.invariant.1) (others_none a.config.now.inputs a.lines.now a.ending i l e)
+    λ i l e. rw (brings a.config.now.inputs a.lines.now a.ending _ _ c.in-None.ensures.steps.0 c.loop-i.invariant.1) (others_none a.config.now.inputs a.lines.now a.ending i l e)
 
 pub returns-then-is_err : goal.returns-then-is_err
 returns-then-is_err c =
     let a = c.args in
     let h = c.loop-i.invariant in
-    let z = c.in-None.ensures.steps in
+    let z = c.in-None.ensures.steps.0 in
     let units = brings a.config.now.inputs a.lines.now a.ending _ _ z h.1 in
     let e = c.book-booked.ensures in
     let err : is_err c.book-booked.result ≡ true = sym c.is_err.ensures.value ∙ c.if-is_err.true in
@@ -83,7 +83,7 @@ pub returns-else-is_err : goal.returns-else-is_err
 returns-else-is_err c =
     let a = c.args in
     let h = c.loop-i.invariant in
-    let z = c.in-None.ensures.steps in
+    let z = c.in-None.ensures.steps.0 in
     let units = brings a.config.now.inputs a.lines.now a.ending _ _ z h.1 in
     let e = c.book-booked.ensures in
     let fine : is_err c.book-booked.result ≡ false = sym c.is_err.ensures.value ∙ c.if-is_err.false in

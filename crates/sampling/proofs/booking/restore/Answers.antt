@@ -14,4 +14,4 @@ loop-i-preserved c = step_done c.in-Some.ensures.steps c.loop-i.invariant refl
 
 pub returns : goal.returns
 unfolding restored_lines
-returns c = half_done _ _ _ c.in-None.ensures.steps c.loop-i.invariant
+returns c = half_done _ _ _ c.in-None.ensures.steps.0 c.loop-i.invariant

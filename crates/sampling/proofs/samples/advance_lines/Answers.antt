@@ -18,4 +18,4 @@ loop-i-preserved c =
 
 pub returns : goal.returns
 unfolding advanced_lines
-returns c = half_done _ _ _ c.in-None.ensures.steps c.loop-i.invariant
+returns c = half_done _ _ _ c.in-None.ensures.steps.0 c.loop-i.invariant

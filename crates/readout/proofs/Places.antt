@@ -7,15 +7,19 @@ use mathlib.Core.List.{List, [], ◌∷◌, ◌++◌}
 use Prim.Native.Nat.{ℕ, ◌+◌, ◌-◌, ◌≤◌}
 use native.Mathlib.Omega.{arith}
 use borrow.Author.Tests.{eq-eqb, ne_eqb, leb-true, eqb-true}
+use denote.Ref.{Bor}
 use lib.Dec.{leb, eqb}
 use lib.Seq.{length-take-le, take_all, get_or-drop, drop-drop}
 use Rattle.std.specs.List.{list_all}
 use lib.ListN.{length, get_or, take, drop, length-drop, take-append-drop, drop_of_length-le}
 use Rattle.laws.specs.Answers.{given, refused}
 use Rattle.laws.specs.Leading.{leading}
+use Rattle.laws.proofs.Answers.{by_answer}
 use Rattle.laws.proofs.Leading.{leading_most, leading_each, leading_exactly}
 use Rattle.laws.proofs.Suffixes.{inside, at_letter}
 use Rattle.laws.proofs.Tests.{by_test, and_left, and_right, and_both}
+use Rattle.readout.specs.Answers.{value_part, line_number}
+use Rattle.readout.specs.Numbers.{whole_number}
 use Rattle.readout.specs.declared.data_sets.Place.{Place}
 use Rattle.readout.specs.DataSets.{AllOf, address_letter, value_letter, between, closes_at, letters_at, ends_at, value_place}
 
@@ -201,3 +205,20 @@ module _ (line : List ℕ) where
       by_test (leb address 16 && eqb (get_or line address 0) 40 && between 1 32 value && ends_at line (address + 1 + value))
       (λ t. let g = rw t at e in absurd (let z : ◌≡◌ {A = ℕ} 0 1 = cc in omega arith))
       (λ t. let g = rw t at e in ((cc), (cc)))
+
+-- the bytes of the part that is handed back: none where the line is no data set, and else the value's
+module _ (x : Bor (List ℕ)) (d : ℕ) where
+  pub no_value : length (value_part x).bytes ≡ 0 → line_number x.now d ≡ refused 17 0
+  unfolding line_number
+  no_value e =
+      by_answer (value_place x.now)
+      (λ p g.
+      let f = place_facts x.now p g in
+      let k : length (take p.length (drop p.start x.now)) ≡ 0 = rw g at e in
+      let m : length (take p.length (drop p.start x.now)) ≡ p.length = length-take-le p.length (drop p.start x.now) (rw length-drop (omega arith)) in
+      absurd (omega arith))
+      (λ n offset g. let o = only_17 x.now n offset g in rw (g, o.0, o.1))
+
+  pub some_value : (length (value_part x).bytes ≡ 0 → ⊥) → line_number x.now d ≡ whole_number (value_part x).bytes d
+  unfolding line_number
+  some_value h = by_answer (value_place x.now) (λ p g. rw g) (λ n offset g. absurd (h (rw g refl)))

@@ -43,12 +43,13 @@ fn leading<F: Fn(u8) -> bool>(text: &[u8], test: F) -> usize
     text.iter().position(|b| !test(*b)).unwrap_or(text.len())
 }
 
-// The value of a data set as a whole number.
+// The value of a data set as a whole number. No value is empty, so an empty part is no data set.
 pub fn line_number(line: &[u8], decimals: u8) -> Result<i32, LineError>
     ensures { line_said result ≡ line_number line.now decimals }
 {
-    let Some(place) = value_place(line) else {
+    let text = value_text(line);
+    if text.is_empty() {
         return Err(LineError::Line);
-    };
-    Ok(whole_number(&line[place.start..place.start + place.length], decimals)?)
+    }
+    Ok(whole_number(text, decimals)?)
 }

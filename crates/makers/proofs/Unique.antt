@@ -9,13 +9,24 @@ use Rattle.laws.proofs.Unique.{told_apart}
 use Rattle.recorder.specs.declared.Setup.{Setup}
 use Rattle.registers.specs.Registers.{RegisterReply}
 use Rattle.registers.specs.declared.RegisterError.TheVariants.{NoGroup, NoRegister, NotFitted, NoRoom}
-use Rattle.makers.specs.Lists.{listing_said}
+use Rattle.makers.specs.Lists.{list_number, listing_said}
 use Rattle.makers.specs.Requests.{maker_said}
 use Rattle.makers.specs.declared.MakerError.{MakerError}
 use Rattle.makers.specs.declared.MakerError.TheVariants as maker
 use Rattle.makers.specs.declared.NoMaker.{NoMaker}
 use Rattle.makers.proofs.give_list.Reads as give_list_reads
 use Rattle.makers.proofs.read_own.Reads as read_own_reads
+
+-- the number tells all answers to a list apart
+pub list_apart : (x y : Result (Unit {0}) NoMaker) → list_number x ≡ list_number y → x ≡ y
+list_apart = told_apart list_number back told
+  where
+    back : ℕ → Result (Unit {0}) NoMaker
+    back n = if eqb n 20 then Err (record {}) else Ok tt
+
+    told : (x : Result (Unit {0}) NoMaker) → back (list_number x) ≡ x
+    told (Ok done) = refl
+    told (Err error) = refl
 
 -- the number and what is there after it tell all answers to a list apart
 pub listing_apart : (setup : Setup) (x y : Result Setup NoMaker) → reply_to setup (listing_said x) ≡ reply_to setup (listing_said y) → x ≡ y

@@ -98,7 +98,7 @@ fn data_set(sum: u64, line: &[u8]) -> u64 {
     }
     match readout::whole_number(text, 3) {
         Ok(number) => {
-            let bits = i64::from(number).cast_unsigned();
+            let bits = profile::bits64(i64::from(number));
             mixed(mixed(sum, bits), text.len() as u64)
         }
         Err(error) => mixed(mixed(sum, error.number()), 0),

@@ -52,7 +52,7 @@ fn put_values(buffer: &mut [u8], at: usize, values: [i64; 8])
 {
     for (k, value) in values.iter().enumerate() {
         let from = at + 8 * k;
-        buffer[from..from + 8].copy_from_slice(&value.to_le_bytes());
+        buffer[from..from + 8].copy_from_slice(&bits64(*value).to_le_bytes());
     }
 }
 

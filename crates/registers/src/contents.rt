@@ -6,6 +6,7 @@ ghost use Rattle.registers.specs.Fleet.{class_number};
 ghost use Rattle.registers.specs.Registers.{registers_of, contents_of};
 
 use crate::fleet::{Fleet, fleet_of, meter_class};
+use profile::bits64;
 use recorder::{Age, Bill, Line, Meter, Period, Recorder};
 use tariff::Program;
 
@@ -88,7 +89,7 @@ fn level9(closed: Period, i: usize) -> [u8; 13]
     bytes[0] = closed.state;
     bytes[1..5].copy_from_slice(&closed.stamp.to_le_bytes());
     let values = closed.values;
-    bytes[5..].copy_from_slice(&values[i].to_le_bytes());
+    bytes[5..].copy_from_slice(&bits64(values[i]).to_le_bytes());
     bytes
 }
 
@@ -129,7 +130,7 @@ fn fleet_bytes(fleet: Fleet) -> [u8; 13]
     bytes[2] = fleet.stale;
     bytes[3] = fleet.invalid;
     bytes[4] = fleet.never;
-    bytes[5..].copy_from_slice(&fleet.sum.to_le_bytes());
+    bytes[5..].copy_from_slice(&bits64(fleet.sum).to_le_bytes());
     bytes
 }
 

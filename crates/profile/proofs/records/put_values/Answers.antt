@@ -9,6 +9,7 @@ use mir.Syntax.{w64}
 use mir.Val.{to_z, of_z}
 use mir.Facts.{to_z-of_z}
 use Rattle.laws.proofs.Arrays.{elem_sfits}
+use Rattle.laws.specs.Bytes.{bytes_of}
 use Rattle.laws.proofs.Bytes.{length_bytes_of}
 use Rattle.laws.proofs.Runs.{stored_none, stored_more}
 use Rattle.profile.specs.Records.{value_bytes}
@@ -23,7 +24,7 @@ loop-k-preserved c =
     let l = c.loop-k in
     let value = get_or c.args.values l.k (pos 0) in
     let back : to_z w64 (of_z w64 value) ≡ value = to_z-of_z {w = w64} {z = value} (search elem_sfits) in
-    let bytes : c.copy_from_slice.new.self ≡ value_bytes value = c.copy_from_slice.ensures.after ∙ c.to_le_bytes.ensures ∙ le_bytes 8 _ ∙ ap value_bytes back in
+    let bytes : c.copy_from_slice.new.self ≡ value_bytes value = c.copy_from_slice.ensures.after ∙ c.to_le_bytes.ensures ∙ le_bytes 8 _ ∙ ap (bytes_of 8) c.bits64.ensures ∙ ap value_bytes back in
     let from = c.args.at + 8 * l.k in
     let size : from + 8 - from ≡ 8 = omega arith in
     let long : length (value_bytes value) ≡ 8 = length_bytes_of 8 (of_z w64 value) in

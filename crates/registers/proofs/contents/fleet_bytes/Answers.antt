@@ -22,4 +22,4 @@ returns c =
     let stale : f.stale < 256 = search rules in
     let invalid : f.invalid < 256 = search rules in
     let never : f.never < 256 = search rules in
-    rw (c.copy_from_slice.ensures.after, c.to_le_bytes.ensures ∙ le_bytes 8 _, sum, mod-eq_of_lt fitted, mod-eq_of_lt awake, mod-eq_of_lt stale, mod-eq_of_lt invalid, mod-eq_of_lt never)
+    rw (c.copy_from_slice.ensures.after, c.to_le_bytes.ensures ∙ le_bytes 8 _, c.bits64.ensures, sum, mod-eq_of_lt fitted, mod-eq_of_lt awake, mod-eq_of_lt stale, mod-eq_of_lt invalid, mod-eq_of_lt never)

@@ -23,4 +23,4 @@ returns c =
     let v = get_or closed.values c.args.i (pos 0) in
     let fits : SFits w64 v = search (rules, elem_sfits) in
     let value : to_z w64 (of_z w64 v) ≡ v = to_z-of_z {w = w64} fits in
-    rw (ne_eqb _ _ c.if-closed-eq0.false) (rw (c.copy_from_slice.ensures.after, c.to_le_bytes.ensures ∙ le_bytes 4 closed.stamp, c.copy_from_slice-2.ensures.after, c.to_le_bytes-2.ensures ∙ le_bytes 8 _, value, mod-eq_of_lt state))
+    rw (ne_eqb _ _ c.if-closed-eq0.false) (rw (c.copy_from_slice.ensures.after, c.to_le_bytes.ensures ∙ le_bytes 4 closed.stamp, c.copy_from_slice-2.ensures.after, c.to_le_bytes-2.ensures ∙ le_bytes 8 _, c.bits64.ensures, value, mod-eq_of_lt state))

@@ -222,14 +222,28 @@ impl Recorder {
         }
     }
 
-    #[tactic(auto, using(crate::proofs::Single::one_lent))]
+    // One lap, with the closing that it may bring.
     pub fn sample(self, bits: u16, buffer: &mut [u8]) -> Sampled
         ensures { with_buffer (sampled_said result) buffer.new ≡ sample_lent self bits buffer.old }
     {
-        let run = self.samples(&[bits], buffer);
+        if !self.profile.as_at_start(buffer.len()) {
+            return self.refuse(SampleError::ProfileBuffer);
+        }
+        let lap = take(self.config, self.state, &[bits]);
+        let mut state = lap.state;
+        let mut profile = self.profile;
+        if lap.closes {
+            state = close(self.config, state);
+            profile = profile.put(self.setup.record_of(state.closed), buffer);
+        }
+        let recorder = Recorder {
+            state,
+            profile,
+            ..self
+        };
         Answered {
-            recorder: run.recorder,
-            answer: run.answer,
+            recorder,
+            answer: lap.answer,
         }
     }
 

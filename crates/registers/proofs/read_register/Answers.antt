@@ -1,12 +1,12 @@
 -- `registers::read_register` meets its contract: the register's bytes, as many as its layout says, are the first of the 13.
 use mathlib.Core.Path.{◌≡◌, ap, sym, ◌∙◌}
 use mathlib.Core.Bool.{not}
-use mathlib.Core.List.{◌++◌}
+use mathlib.Core.List.{List, ◌++◌}
 use Prim.Native.Nat.{ℕ}
 use native.Mathlib.Omega.{arith}
 use borrow.Author.Rules.{rules}
 use borrow.Author.Tests.{le-leb}
-use lib.ListN.{length, drop}
+use lib.ListN.{length}
 use Rattle.std.proofs.lemmas.List.{length-take-le}
 use Rattle.std.specs.Prelude.{Ok}
 use Rattle.recorder.specs.declared.Recorder.{Recorder}
@@ -36,12 +36,16 @@ copy_from_slice-requires c =
     let n = few _ (laid _ _ _ c.layout_of.ensures c.in_ok-registers.ensures.value) in
     search rules
 
+-- the register in front, and what stands behind it
+parts : {front now tail rest : List ℕ} → front ≡ now → tail ≡ rest → front ++ tail ≡ now ++ rest
+parts e f = rw (e, f)
+
 pub returns : goal.returns
 unfolding register_reply
 returns c =
     let line = laid _ _ _ c.layout_of.ensures c.in_ok-registers.ensures.value in
     let a = c.args in
     let n = c.in_ok-registers.field-0.bytes in
-    let after = ap (λ b. b ++ drop n a.buf.now) c.copy_from_slice.ensures.after in
+    let after = parts c.copy_from_slice.ensures.after (search rules) in
     ap (replied (Ok n)) (given_out n (held_by (group_of a.group) a.recorder a.register) a.buf.now (held_as_said a.group line a.recorder a.register) c.contents-held.ensures after)
     ∙ reply_read line _ _ _ c.if-register-registers.false (ap not (sym c.if-not-is_fitted.ensures)) (ap not (le-leb _ _ c.if-bytes-buf.false))

@@ -1,5 +1,5 @@
 -- `readout::data_sets::ends` meets its contract: by the letters at both ends.
-use Rattle.std.proofs.Common.{rules, tests}
+use Rattle.std.proofs.Common.{rules}
 use Rattle.std.proofs.lemmas.Iterator.{YieldsList-from_slice}
 use Rattle.std.proofs.lemmas.Iterator.Search.{all_from_yields_List}
 use mathlib.Core.Path.{◌≡◌, sym, ◌∙◌}
@@ -20,7 +20,7 @@ returns-then-contains c =
     let unit = take (length rest - 1 - 1) (drop 1 rest) in
     let size : c.contains.result ≡ between 1 16 (length unit) = search rules in
     let letters : c.all.result ≡ list_all value_letter unit =
-    all_from_yields_List value_letter _ _ c.all.result c.all.ensures.ran (YieldsList-from_slice _ c.iter.ensures.rest) (λ x b q k. search (rules, tests)) in
+    all_from_yields_List value_letter _ _ c.all.result c.all.ensures.ran (YieldsList-from_slice _ c.iter.ensures.rest) (λ x b q k. search rules) in
     letters ∙ sym (ends_starred rest c.in-42.len_at_least (omega arith) (omega arith) ∙ rw (sym size ∙ c.if-contains.true))
 
 pub returns-else-contains : goal.returns-else-contains

@@ -6,6 +6,8 @@
 mod calls;
 mod output;
 
+ghost use Rattle.std.specs.Prelude.{◌≤◌, length};
+
 use arrayvec::ArrayVec;
 use calls::Hall;
 use image::IMAGE_LENGTH;
@@ -71,24 +73,37 @@ fn run(rt: &(impl Input + Print), image: &[u8]) -> io::Result<()> {
     work.out.flush()
 }
 
+// Reads until the buffer is full, the input ends or a read fails, and hands back how many bytes it put at the start.
+// Each read asks for all the room that is left: input may come in packets, and what a read doesn't ask for of a packet is lost.
+fn read_full(mut input: impl Read + Drop, buffer: &mut [u8]) -> usize
+    ensures { result ≤ length buffer.new }
+{
+    let mut done = 0;
+    while done < buffer.len() {
+        let n = input.read(&mut buffer[done..]).unwrap_or(0);
+        if n == 0 {
+            return done;
+        }
+        done += n;
+    }
+    done
+}
+
 fn cannot_be_read(rt: &impl Print) -> io::Result<()> {
     rt.write_all(b"error: the image cannot be read\n")
 }
 
-// One byte more than an image has is read, so that a longer file is told from an image; a shorter one is none, whatever it has.
-// As in image_tester: a library could promise nothing of what is read. A path that is not UTF-8 names no file here.
+// One byte more than an image has is read, so that a longer file is told from an image. As in image_tester: a library could promise nothing of what is read.
+// A path that is not UTF-8 names no file here.
 fn with_image(rt: &(impl Files + Input + Print), path: &[u8]) -> io::Result<()> {
     let Ok(name) = str::from_utf8(path) else {
         return cannot_be_read(rt);
     };
-    let Ok(mut file) = fs::open(rt, name) else {
+    let Ok(file) = fs::open(rt, name) else {
         return cannot_be_read(rt);
     };
     let mut image = [0u8; IMAGE_LENGTH + 1];
-    let n = match file.read_exact(&mut image[..IMAGE_LENGTH]) {
-        Ok(()) => IMAGE_LENGTH + file.read(&mut image[IMAGE_LENGTH..]).unwrap_or(0),
-        Err(_) => 0,
-    };
+    let n = read_full(file, &mut image);
     run(rt, &image[..n])
 }
 

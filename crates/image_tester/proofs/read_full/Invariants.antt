@@ -1,0 +1,9 @@
+-- `image_tester::read_full` meets its contract. The loop's invariant: no more bytes were put than the buffer has.
+use Rattle.std.proofs.Common.{length, ◌-◌, ◌≤◌}
+use Rattle.image_tester.proofs.read_full.Given as goal
+
+abbrev pub invariant-loop-done : goal.invariant-loop-done
+invariant-loop-done g l = l.done ≤ length l.initial.buffer
+
+abbrev pub decreases-loop-done : goal.decreases-loop-done
+decreases-loop-done g l = length l.initial.buffer - l.done

@@ -36,14 +36,20 @@ impl<'a, R: Print> Work<'a, R> {
         Ok(())
     }
 
+    // Keeps what there is room for of a part of a line.
+    fn keep(&mut self, part: &[u8]) {
+        let fits = part.len().min(self.line.remaining_capacity());
+        let _ = self.line.try_extend_from_slice(&part[..fits]);
+    }
+
     // Answers each line that ends in these bytes, and keeps what is left of the last. The answers are written before more input is waited for.
+    // Each part but the first has a line end in front of it. Part by part: byte by byte a long line takes half as long again.
     fn take(&mut self, bytes: &[u8]) -> io::Result<()> {
-        for byte in bytes {
-            if *byte == b'\n' {
+        for (k, part) in bytes.split(|byte| *byte == b'\n').enumerate() {
+            if 0 < k {
                 self.end_line()?;
-            } else {
-                let _ = self.line.try_push(*byte);
             }
+            self.keep(part);
         }
         self.out.flush()
     }

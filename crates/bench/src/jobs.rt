@@ -105,41 +105,38 @@ fn data_set(sum: u64, line: &[u8]) -> u64 {
     }
 }
 
-// A job: its recorder, the buffer for records that is lent to each of its calls, what the input has, and how often it is done.
+// A job: its recorder, what the input has, and how often it is done. The buffer for records is lent to each call: in here it would be copied with the job.
 #[derive(Drop)]
 struct Job {
     recorder: Recorder,
-    buffer: [u8; 65536],
     data: Data,
     rounds: u32,
 }
 
 impl Job {
     // With a reading of every meter that is fitted, with each STATUS and each SEQ.
-    fn new(data: Data, rounds: u32) -> Job {
-        let buffer = [0u8; 65536];
+    fn new(data: Data, rounds: u32, buffer: &[u8]) -> Job {
         let setup = Setup {
             slots: [0, 1, 2, 3, 4, 5, 6, 7],
             lists: [EVEN; 3],
         };
-        let mut recorder = Recorder::start(&data.image, START, setup, &buffer).recorder;
+        let mut recorder = Recorder::start(&data.image, START, setup, buffer).recorder;
         for i in 0..32u8 {
             recorder = recorder.reading(i, value_of(i), i % 8, i).recorder;
         }
         Job {
             recorder,
-            buffer,
             data,
             rounds,
         }
     }
 
     // All samples in one call, and then again. The check sum is of the refusals.
-    fn samples(&mut self) -> u64 {
+    fn samples(&mut self, buffer: &mut [u8]) -> u64 {
         let mut now = self.recorder;
         let mut sum = 0;
         for _ in 0..self.rounds {
-            let run = now.samples(&self.data.bits, &mut self.buffer);
+            let run = now.samples(&self.data.bits, buffer);
             now = run.recorder;
             sum = mixed(sum, run.answer.number());
         }
@@ -148,13 +145,13 @@ impl Job {
     }
 
     // The same samples, each in a call of its own.
-    fn singles(&mut self) -> u64 {
+    fn singles(&mut self, buffer: &mut [u8]) -> u64 {
         let mut now = self.recorder;
         let mut sum = 0;
         let bits = self.data.bits;
         for _ in 0..self.rounds {
             for sample in &bits {
-                let sampled = now.sample(*sample, &mut self.buffer);
+                let sampled = now.sample(*sample, buffer);
                 now = sampled.recorder;
                 sum = mixed(sum, sampled.answer.number());
             }
@@ -175,8 +172,8 @@ impl Job {
     }
 
     // The bills are reset after the samples.
-    fn reset(&mut self) {
-        let run = self.recorder.samples(&self.data.bits, &mut self.buffer);
+    fn reset(&mut self, buffer: &mut [u8]) {
+        let run = self.recorder.samples(&self.data.bits, buffer);
         self.recorder = run.recorder.reset_bills();
     }
 
@@ -198,34 +195,32 @@ impl Job {
     }
 
     // A buffer that is full and more: 1,000 periods, each with ten samples and closed by a clock set.
-    fn fill(&mut self) {
+    fn fill(&mut self, buffer: &mut [u8]) {
         let bits = self.data.bits;
         let mut now = self.recorder;
         for i in 0..1000u32 {
             let from = (i % 100 * 10) as usize;
-            now = now
-                .samples(&bits[from..from + 10], &mut self.buffer)
-                .recorder;
-            now = now.set_clock(spread(i), &mut self.buffer).recorder;
+            now = now.samples(&bits[from..from + 10], buffer).recorder;
+            now = now.set_clock(spread(i), buffer).recorder;
         }
         self.recorder = now;
     }
 
     // A period is closed by a clock set, and its record put. The check sum is of the refusals, and then of the whole buffer.
-    fn closes(&mut self) -> u64 {
+    fn closes(&mut self, buffer: &mut [u8]) -> u64 {
         let mut now = self.recorder;
         let mut sum = 0;
         for i in 0..self.rounds {
-            let set = now.set_clock(spread(i), &mut self.buffer);
+            let set = now.set_clock(spread(i), buffer);
             now = set.recorder;
             sum = mixed(sum, set.answer.number());
         }
-        bytes_sum(sum, &self.buffer)
+        bytes_sum(sum, buffer)
     }
 
-    fn records(&self) -> u64 {
+    fn records(&self, buffer: &[u8]) -> u64 {
         let recorder = self.recorder;
-        (0..self.rounds).fold(0, |sum, i| mixed(sum, record(recorder, i, &self.buffer)))
+        (0..self.rounds).fold(0, |sum, i| mixed(sum, record(recorder, i, buffer)))
     }
 
     // One data set, with another digit before the point each time. It comes with the input: of a line that it knows the compiler works out the number itself.
@@ -240,35 +235,38 @@ impl Job {
     }
 }
 
+// Each job prints its own sum: with one print for all, the sum is copied once more in each round.
 pub(crate) fn run(rt: &impl Print, letter: u8, data: Data, rounds: u32) -> io::Result<()> {
-    let mut job = Job::new(data, rounds);
-    let sum = match letter {
-        b's' => job.samples(),
-        b'o' => job.singles(),
-        b'i' => job.images(),
+    let mut buffer = [0u8; 65536];
+    let mut job = Job::new(data, rounds, &buffer);
+    match letter {
+        b's' => {
+            write_number(rt, job.samples(&mut buffer))?;
+            write_registers(rt, job.recorder)
+        }
+        b'o' => {
+            write_number(rt, job.singles(&mut buffer))?;
+            write_registers(rt, job.recorder)
+        }
+        b'i' => write_number(rt, job.images()),
         b'r' => {
-            job.reset();
-            job.reads()
+            job.reset(&mut buffer);
+            write_number(rt, job.reads())
         }
         b'm' => {
-            job.reset();
-            job.own_reads()
+            job.reset(&mut buffer);
+            write_number(rt, job.own_reads())
         }
-        b'c' => job.moments(),
+        b'c' => write_number(rt, job.moments()),
         b'p' => {
-            job.fill();
-            job.closes()
+            job.fill(&mut buffer);
+            write_number(rt, job.closes(&mut buffer))
         }
         b'l' => {
-            job.fill();
-            job.records()
+            job.fill(&mut buffer);
+            write_number(rt, job.records(&buffer))
         }
-        b'd' => job.data_sets(),
-        _ => return Ok(()),
-    };
-    write_number(rt, sum)?;
-    if matches!(letter, b's' | b'o') {
-        return write_registers(rt, job.recorder);
+        b'd' => write_number(rt, job.data_sets()),
+        _ => Ok(()),
     }
-    Ok(())
 }

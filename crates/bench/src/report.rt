@@ -1,9 +1,27 @@
 // What a job prints: its check sum, and every register.
 use recorder::Recorder;
-use std::io;
+use std::{array, io};
 
 pub(crate) fn write_number(rt: &impl Print, n: u64) -> io::Result<()> {
     println!(rt; "{n}")
+}
+
+// The last digit of a number in hexadecimal.
+fn hex_digit(n: u8) -> u8 {
+    match n % 16 {
+        d @ 0..=9 => b'0' + d,
+        d => b'a' + (d - 10),
+    }
+}
+
+// The line is put together first: each write is a call of the system.
+fn write_bytes(rt: &impl Print, bytes: [u8; 13]) -> io::Result<()> {
+    let line: [u8; 27] = array::from_fn(|k| match bytes.get(k / 2) {
+        Some(byte) if k % 2 == 0 => hex_digit(*byte / 16),
+        Some(byte) => hex_digit(*byte),
+        None => b'\n',
+    });
+    rt.write_all(&line)
 }
 
 // The bytes of a register, and zeros to 13; nothing where it is refused.
@@ -17,10 +35,7 @@ fn write_register(
     if registers::read_register(recorder, group, register, &mut bytes).is_err() {
         return Ok(());
     }
-    for byte in bytes {
-        print!(rt; "{byte:02x}")?;
-    }
-    rt.write_all(b"\n")
+    write_bytes(rt, bytes)
 }
 
 fn write_group(rt: &impl Print, recorder: Recorder, group: u32, registers: u32) -> io::Result<()> {

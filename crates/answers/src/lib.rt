@@ -29,7 +29,7 @@ use display::DisplayError;
 use image::{ImageError, WriteError};
 use lines::Mistake;
 use makers::{MakerError, NoMaker};
-use readout::{LineError, NoBlock, Place};
+use readout::{NoBlock, NumberError, Place};
 use recorder::{ReadingError, ReadoutError, RecordError, SampleError, SetError, Stamp, StartError};
 use registers::{Fleet, RegisterError};
 
@@ -177,11 +177,11 @@ pub fn dataset_line(line: &[u8], decimals: u8) -> Text
     let Some(place) = readout::value_place(line) else {
         return refused(17);
     };
-    match readout::line_number(line, decimals) {
+    let value = &line[place.start..place.start + place.length];
+    match readout::whole_number(value, decimals) {
         Ok(number) => value_line(place, number),
-        Err(LineError::Line) => refused(17),
-        Err(LineError::NotANumber) => refused(18),
-        Err(LineError::DoesNotFit) => refused(19),
+        Err(NumberError::NotANumber) => refused(18),
+        Err(NumberError::DoesNotFit) => refused(19),
     }
 }
 

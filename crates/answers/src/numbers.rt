@@ -21,39 +21,56 @@ fn hex_digit(n: u8) -> u8
 }
 
 impl Text {
+    fn put_number(&mut self, n: u64)
+        ensures { self.new ≡ with_bytes self.old (decimal_of n) }
+    {
+        if n >= 10 {
+            self.put_number(n / 10);
+        }
+        self.put(digit(n));
+    }
+
     // In decimal, with no zero in front.
-    pub(crate) fn number(self, n: u64) -> Text
+    pub(crate) fn number(mut self, n: u64) -> Text
         ensures { result ≡ with_bytes self (decimal_of n) }
     {
-        let front = if n < 10 { self } else { self.number(n / 10) };
-        front.letter(digit(n))
+        self.put_number(n);
+        self
     }
 
     // With a minus sign where it is negative.
-    pub(crate) fn signed(self, z: i64) -> Text
+    pub(crate) fn signed(mut self, z: i64) -> Text
         ensures { result ≡ with_bytes self (decimal_signed z) }
     {
-        let text = if z < 0 { self.letter(b'-') } else { self };
-        text.number(z.unsigned_abs())
+        if z < 0 {
+            self.put(b'-');
+        }
+        self.number(z.unsigned_abs())
     }
 
     // The last two decimal digits.
-    pub(crate) fn two_digits(self, n: u64) -> Text
+    pub(crate) fn two_digits(mut self, n: u64) -> Text
         ensures { result ≡ with_bytes self (two_digits n) }
     {
-        self.letter(digit(n / 10)).letter(digit(n))
+        self.put(digit(n / 10));
+        self.put(digit(n));
+        self
     }
 
     // Two hexadecimal digits.
-    fn hex_byte(self, byte: u8) -> Text
-        ensures { result ≡ with_byte (with_byte self (hex_digit (byte / 16))) (hex_digit byte) }
+    fn put_hex(&mut self, byte: u8)
+        ensures { self.new ≡ with_byte (with_byte self.old (hex_digit (byte / 16))) (hex_digit byte) }
     {
-        self.letter(hex_digit(byte / 16)).letter(hex_digit(byte))
+        self.put(hex_digit(byte / 16));
+        self.put(hex_digit(byte));
     }
 
-    pub(crate) fn hex(self, bytes: &[u8]) -> Text
+    pub(crate) fn hex(mut self, bytes: &[u8]) -> Text
         ensures { result ≡ with_bytes self (hex_of bytes.now) }
     {
-        bytes.iter().copied().fold(self, Text::hex_byte)
+        for byte in bytes {
+            self.put_hex(*byte);
+        }
+        self
     }
 }

@@ -14,21 +14,25 @@ impl Text {
         }
     }
 
-    // One letter more; a full text is left as it is.
+    // One letter more; a full text is left as it is. The text is lent: by value it is copied for each letter.
     #[tactic(auto, unfolding(crate::specs::Texts::with_byte))]
-    pub(crate) fn letter(mut self, letter: u8) -> Text
-        ensures { result ≡ with_byte self letter }
+    pub(crate) fn put(&mut self, letter: u8)
+        ensures { self.new ≡ with_byte self.old letter }
     {
         if self.length < 256 {
             self.bytes[self.length] = letter;
             self.length += 1;
         }
-        self
     }
 
-    pub(crate) fn letters(self, letters: &[u8]) -> Text
+    // As many letters more as there is room for.
+    pub(crate) fn letters(mut self, letters: &[u8]) -> Text
         ensures { result ≡ with_bytes self letters.now }
     {
-        letters.iter().copied().fold(self, Text::letter)
+        let at = self.length.min(256);
+        let fitting = letters.len().min(256 - at);
+        self.bytes[at..at + fitting].copy_from_slice(&letters[..fitting]);
+        self.length += fitting;
+        self
     }
 }

@@ -1,8 +1,9 @@
--- `answers::Text::letters` meets its contract: letters one by one.
-use Rattle.std.proofs.Common.{rules}
-use Rattle.std.proofs.iter.runs.Made.{chains}
-use Rattle.answers.proofs.Laws.{fold_letters}
+-- `answers::Text::letters` meets its contract: what fits is copied behind the letters that are there.
+use borrow.Author.Rules.{rules}
+use Rattle.answers.proofs.Laws.{letters_copied}
 use Rattle.answers.proofs.Text.letters.Goals as goal
 
 pub returns : goal.returns
-returns c = rw (← fold_letters c.args.self c.args.letters.now) (search (rules, chains))
+returns c =
+    rw c.copy_from_slice.ensures.after
+    (letters_copied c.args.self c.args.letters.now c.min-at.result c.min-fitting.result (search rules) c.min-at.ensures c.min-fitting.ensures)

@@ -10,6 +10,6 @@ unfolding with_bytes
 returns c =
     let z = to_z-of_z c.ranges.z in
     elim c.if-z-lt0.branch [
-      | then-z-lt0 w ↦ rw (c.number.ensures, c.unsigned_abs.ensures.value, z, w.text-is, w.letter-text.ensures, signed_negative _ (rw z at w.if-z-lt0.true))
-      | else-z-lt0 w ↦ rw (c.number.ensures, c.unsigned_abs.ensures.value, z, w.text-is, signed_natural _ (rw z at w.if-z-lt0.false))
+      | then-z-lt0 w ↦ rw (c.number.ensures, c.unsigned_abs.ensures.value, z, w.self-is, w.put.ensures, signed_negative _ (rw z at w.if-z-lt0.true))
+      | else-z-lt0 w ↦ rw (c.number.ensures, c.unsigned_abs.ensures.value, z, w.self-is, signed_natural _ (rw z at w.if-z-lt0.false))
     ]

@@ -24,7 +24,7 @@ use Rattle.readout.specs.declared.data_sets.Place.{Place}
 use Rattle.recorder.specs.Meters.{Stamping, renewed, kept}
 use Rattle.image.specs.Answers.{image_answer}
 use Rattle.answers.specs.declared.Text.{Text}
-use Rattle.answers.specs.Texts.{with_byte, with_bytes}
+use Rattle.answers.specs.Texts.{with_byte, with_bytes, as_text}
 use Rattle.laws.specs.Decimals.{decimal_in, decimal_of}
 use Rattle.answers.specs.Numbers.{decimal_signed, hex_of}
 use Rattle.answers.specs.Errors.{words_text, numbers_text, mistake_text}
@@ -223,6 +223,10 @@ none_cut =
 pub empty_line : EmptyLine
 unfolding letters decimal_of decimal_in image_answer
 empty_line = refl
+
+-- the letters of a line stand in its text
+pub text_within : (l : List ℕ) → Fits l → (as_text l).length ≤ length (as_text l).bytes
+text_within l h = rw (text_is l h, length-append) (omega arith)
 
 -- bytes one after another in hexadecimal
 hex_append : (a b : List ℕ) → hex_of (a ++ b) ≡ hex_of a ++ hex_of b

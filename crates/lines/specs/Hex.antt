@@ -1,10 +1,11 @@
 -- HEX: bytes in hexadecimal.
-use Rattle.std.specs.Prelude.{bytes_eq, ◌≡◌, Bool, true, not, ◌&&◌, ◌||◌, List, [], ℕ, ◌+◌, ◌-◌, ◌*◌, ◌/◌, ◌%◌, ◌≤◌, leb, eqb, length, get_or, take, if◌then◌else◌, Option, Some, None, is_some, unwrap_or}
+use Rattle.std.specs.Prelude.{bytes_eq, ◌≡◌, Bool, true, not, ◌&&◌, ◌||◌, List, [], ◌++◌, ℕ, ◌+◌, ◌-◌, ◌*◌, ◌/◌, ◌%◌, ◌≤◌, leb, eqb, length, get_or, take, replicate, if◌then◌else◌, Option, Some, None, is_some, unwrap_or}
 use Rattle.std.specs.List.{list_all}
 use Rattle.laws.specs.Decimals.{is_digit}
 use Rattle.laws.specs.Letters.{letters}
 use Rattle.laws.specs.Tables.{table}
 use Rattle.lines.specs.Words.{without_return, word}
+use Rattle.lines.specs.declared.Bytes.{Bytes}
 
 -- the number of a letter that is a hexadecimal digit: 0 to 9, A to F (65 to 70) or a to f (97 to 102)
 abbrev pub hex_digit_of : ℕ → Option ℕ
@@ -38,9 +39,14 @@ bytes_of_hex w = if is_hex w then take 128 (hex_values w) else []
 abbrev pub hex_bytes : ℕ → List ℕ → List ℕ
 hex_bytes k text = bytes_of_hex (word k (without_return text))
 
--- of a line of at most 255 letters no HEX is cut: the bytes are all bytes of the word
+-- bytes by value: at most 128, and zeros behind them
+abbrev pub as_bytes : List ℕ → Bytes
+as_bytes l = record { bytes = take 128 l ++ replicate (128 - length l) 0; count = length (take 128 l) }
+
+-- of a line of at most 255 letters no HEX is cut: the bytes are all bytes of the word, and so are those that are counted by value
 abbrev pub HexWhole : Type 0
 HexWhole = (k : ℕ) (text : List ℕ) →
     let line = without_return text in
     let w = word k line in
-    length line ≤ 255 → is_hex w ≡ true → hex_bytes k text ≡ hex_values w
+    let b = as_bytes (hex_bytes k text) in
+    length line ≤ 255 → is_hex w ≡ true → (hex_bytes k text ≡ hex_values w) × (take b.count b.bytes ≡ hex_values w)

@@ -5,14 +5,12 @@ mod hex;
 mod numbers;
 mod words;
 
-ghost use Rattle.std.specs.Prelude.{◌≡◌, ◌≤◌, IfOk};
+ghost use Rattle.std.specs.Prelude.{◌≡◌, ◌≤◌, IfOk, take};
 ghost use Rattle.laws.specs.Parts.{part_of};
 ghost use Rattle.lines.specs.Words.{word, text_after};
 ghost use Rattle.lines.specs.Numbers.{whole_of, signed_of};
-ghost use Rattle.lines.specs.Hex.{hex_bytes};
+ghost use Rattle.lines.specs.Hex.{hex_bytes, as_bytes};
 ghost use Rattle.lines.specs.Lines.{told, number32, number16, number8, number_or, request_of, readout_of, masks_of, slots_of, with_hex, has_words, asked_of, command_of, line_means};
-
-use arrayvec::ArrayVec;
 
 // What a line asks.
 #[derive(Clone, Copy)]
@@ -74,6 +72,13 @@ pub struct Masks {
     pub inputs: u16,
     pub slots: u16,
     pub bills: u16,
+}
+
+// The bytes of HEX, with zeros behind them.
+#[derive(Clone, Copy)]
+pub struct Bytes {
+    pub bytes: [u8; 128],
+    pub count: usize,
 }
 
 // What is wrong with a line.
@@ -366,9 +371,14 @@ pub fn text_after(text: &[u8], k: usize) -> &[u8]
 }
 
 // The bytes of word k of a line, if it is HEX.
-pub fn hex_bytes(text: &[u8], k: usize) -> ArrayVec<u8, 128>
-    ensures { result.items ≡ hex_bytes k text.now }
+pub fn hex_bytes(text: &[u8], k: usize) -> Bytes
+    ensures value { result ≡ as_bytes (hex_bytes k text.now) }
+    ensures items { take result.count result.bytes ≡ hex_bytes k text.now }
 {
     let line = words::without_return(text);
-    hex::bytes_of(words::word(line, k))
+    let held = hex::bytes_of(words::word(line, k));
+    let count = held.len();
+    let mut bytes = [0; 128];
+    bytes[..count].copy_from_slice(held.as_slice());
+    Bytes { bytes, count }
 }

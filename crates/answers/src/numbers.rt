@@ -21,6 +21,7 @@ fn hex_digit(n: u8) -> u8
 }
 
 impl Text {
+    // In decimal, with no zero in front.
     fn put_number(&mut self, n: u64)
         ensures { self.new ≡ with_bytes self.old (decimal_of n) }
     {
@@ -30,7 +31,7 @@ impl Text {
         self.put(digit(n));
     }
 
-    // In decimal, with no zero in front.
+    // The same, by value.
     pub(crate) fn number(mut self, n: u64) -> Text
         ensures { result ≡ with_bytes self (decimal_of n) }
     {

@@ -1,4 +1,4 @@
-// Texts by value: letters are put behind those that are there.
+// Texts by value: letters are put behind those that are there. Within a step the text is lent, since by value it is copied for each letter.
 ghost use Rattle.std.specs.Prelude.{◌≡◌};
 ghost use Rattle.answers.specs.Texts.{blank_text, with_byte, with_bytes};
 
@@ -14,7 +14,7 @@ impl Text {
         }
     }
 
-    // One letter more; a full text is left as it is. The text is lent: by value it is copied for each letter.
+    // One letter more; a full text is left as it is.
     #[tactic(auto, unfolding(crate::specs::Texts::with_byte))]
     pub(crate) fn put(&mut self, letter: u8)
         ensures { self.new ≡ with_byte self.old letter }
@@ -25,7 +25,7 @@ impl Text {
         }
     }
 
-    // As many letters more as there is room for.
+    // As many letters more as there is room for, in one copy.
     pub(crate) fn letters(mut self, letters: &[u8]) -> Text
         ensures { result ≡ with_bytes self letters.now }
     {

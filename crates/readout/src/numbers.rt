@@ -17,7 +17,8 @@ pub enum NumberError {
 fn with_digit(n: u32, digit: u8) -> u32
     ensures { result ≡ held (n * 10 + digit) }
 {
-    n.saturating_mul(10).saturating_add(u32::from(digit))
+    let next = u64::from(n) * 10 + u64::from(digit);
+    next.min(4294967295) as u32
 }
 
 // n with digits behind it.

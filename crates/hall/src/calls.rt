@@ -67,7 +67,7 @@ impl<'a> Hall<'a> {
         answers::ok()
     }
 
-    // A maker's list, for the next start. `Masks` has the fields of `MakerList` once more, since crate lines stands on laws alone.
+    // A maker's list, for the next start. `Masks` has the fields of `MakerList` once more, since crate lines stands on no recorder.
     fn list(&mut self, maker: u8, masks: Masks) -> Text {
         let list = MakerList {
             meters: masks.meters,

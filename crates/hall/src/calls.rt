@@ -128,7 +128,7 @@ impl<'a> Hall<'a> {
     // The same behind six, the last of which is the block around it.
     fn block_readout(&mut self, of: Readout, text: &[u8]) -> Text {
         let hex = lines::hex_bytes(text, 5);
-        let block = &hex.bytes[..hex.count.min(128)];
+        let block = &hex.bytes[..hex.count];
         let line = lines::text_after(text, 6);
         let read = self
             .recorder
@@ -166,7 +166,7 @@ impl<'a> Hall<'a> {
     // A format string behind three words, the last of which is the argument bytes.
     fn display(&self, room: u32, text: &[u8]) -> Text {
         let hex = lines::hex_bytes(text, 2);
-        let arguments = &hex.bytes[..hex.count.min(128)];
+        let arguments = &hex.bytes[..hex.count];
         let format = lines::text_after(text, 3);
         let mut bytes = [0u8; 32];
         let buffer = &mut bytes[..room_of(room, 32)];
@@ -223,5 +223,5 @@ impl<'a> Hall<'a> {
 // The block is word 1.
 fn block_line(text: &[u8]) -> Text {
     let hex = lines::hex_bytes(text, 1);
-    answers::block_line(&hex.bytes[..hex.count.min(128)])
+    answers::block_line(&hex.bytes[..hex.count])
 }

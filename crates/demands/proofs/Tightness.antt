@@ -1,4 +1,5 @@
--- The list of specs/Tightness.antt: each crate proves it of its own functions in its proofs/Unique.antt.
+-- The list of specs/Tightness.antt: each crate proves it of its own functions in its proofs/Unique.antt; what an error becomes above is an equation, proved here.
+use mathlib.Core.Path.{sym, ◌∙◌}
 use Prim.Native.Nat.{ℕ, ◌*◌, ◌<◌}
 use native.Mathlib.Omega.{arith}
 use borrow.Author.Rules.{rules}
@@ -49,6 +50,8 @@ tight =
       image_write_image = (image.write_image, (image.write_image_exit, λ κs args. tt));
       image_write_then_read = (image.write_then_read, λ κs args. tt);
       image_read_then_write = (image.read_then_write, λ κs args. tt);
+      image_image_error_from = (λ κs a x y e f p q. p ∙ sym q, λ κs args. tt);
+      image_write_error_from = (λ κs a x y e f p q. p ∙ sym q, λ κs args. tt);
       counting_next = (counting.next_once, (counting.next_exit, λ κs args. tt));
       counting_advance = (counting.advance_exit, λ κs args. tt);
       counting_kind_mask = (counting.kind_mask_lem, λ κs args. tt);
@@ -76,6 +79,7 @@ tight =
       readout_whole_number = (readout.whole_number_lem, λ κs args. tt);
       readout_line_number = (readout.line_number_lem, λ κs args. tt);
       readout_check_block = (readout.check_block, λ κs args. tt);
+      readout_line_error_from = (λ κs a x y e f p q. p ∙ sym q, λ κs args. tt);
       recorder_start = (recorder.start_once, λ κs args. tt);
       recorder_sample = (recorder.sample_once, (recorder.sample_exit, λ κs args. tt));
       recorder_samples = (recorder.samples_once, (recorder.samples_exit, λ κs args. tt));
@@ -87,10 +91,15 @@ tight =
       recorder_read_record = (recorder.read_record_once, (recorder.read_record_exit, λ κs args. tt));
       recorder_age_class = (recorder.age_class_once, λ κs args. tt);
       recorder_age_answer = (recorder.age_answer_once, λ κs args. tt);
+      recorder_start_error_from = (λ κs a x y e f p q. p ∙ sym q, λ κs args. tt);
+      recorder_readout_error_from_block = (λ κs a x y e f p q. p ∙ sym q, λ κs args. tt);
+      recorder_readout_error_from_line = (λ κs a x y e f p q. p ∙ sym q, λ κs args. tt);
+      recorder_readout_error_from_reading = (λ κs a x y e f p q. p ∙ sym q, λ κs args. tt);
       registers_read_register = (registers.read_register_once, (registers.read_register_exit, λ κs args. tt));
       registers_fleet_of = (registers.fleet_of_once, λ κs args. tt);
       makers_give_list = (makers.give_list_once, λ κs args. tt);
       makers_read_own = (makers.read_own_once, (makers.read_own_exit, λ κs args. tt));
+      makers_maker_error_from = (λ κs a x y e f p q. p ∙ sym q, λ κs args. tt);
       display_show = (display.show_once, (display.show_exit, λ κs args. tt));
       lines_line_of = (lines.line_of, λ κs args. tt);
       lines_text_after = (lines.text_after_lem, λ κs args. tt);

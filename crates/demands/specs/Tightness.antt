@@ -25,6 +25,8 @@ use Rattle.image.proofs.check_image.Reads as image_check_image
 use Rattle.image.proofs.write_image.Reads as image_write_image
 use Rattle.image.proofs.write_then_read.Reads as image_write_then_read
 use Rattle.image.proofs.read_then_write.Reads as image_read_then_write
+use Rattle.image.proofs.ImageErrorFromBadValue.from.Reads as image_image_error_from
+use Rattle.image.proofs.WriteErrorFromBadValue.from.Reads as image_write_error_from
 use Rattle.counting.proofs.bits.BitsIterator.next.Reads as counting_next
 use Rattle.counting.proofs.filter.advance.Reads as counting_advance
 use Rattle.counting.proofs.filter.kind_mask.Reads as counting_kind_mask
@@ -52,6 +54,7 @@ use Rattle.readout.proofs.value_text.Reads as readout_value_text
 use Rattle.readout.proofs.whole_number.Reads as readout_whole_number
 use Rattle.readout.proofs.line_number.Reads as readout_line_number
 use Rattle.readout.proofs.check_block.Reads as readout_check_block
+use Rattle.readout.proofs.LineErrorFromNumberError.from.Reads as readout_line_error_from
 use Rattle.recorder.proofs.Recorder.start.Reads as recorder_start
 use Rattle.recorder.proofs.Recorder.sample.Reads as recorder_sample
 use Rattle.recorder.proofs.Recorder.samples.Reads as recorder_samples
@@ -63,10 +66,15 @@ use Rattle.recorder.proofs.Recorder.reset_bills.Reads as recorder_reset_bills
 use Rattle.recorder.proofs.Recorder.read_record.Reads as recorder_read_record
 use Rattle.recorder.proofs.age_class.Reads as recorder_age_class
 use Rattle.recorder.proofs.age_answer.Reads as recorder_age_answer
+use Rattle.recorder.proofs.errors.StartErrorFromImageError.from.Reads as recorder_start_error_from
+use Rattle.recorder.proofs.errors.ReadoutErrorFromNoBlock.from.Reads as recorder_readout_error_from_block
+use Rattle.recorder.proofs.errors.ReadoutErrorFromLineError.from.Reads as recorder_readout_error_from_line
+use Rattle.recorder.proofs.errors.ReadoutErrorFromReadingError.from.Reads as recorder_readout_error_from_reading
 use Rattle.registers.proofs.read_register.Reads as registers_read_register
 use Rattle.registers.proofs.fleet_of.Reads as registers_fleet_of
 use Rattle.makers.proofs.give_list.Reads as makers_give_list
 use Rattle.makers.proofs.read_own.Reads as makers_read_own
+use Rattle.makers.proofs.MakerErrorFromRegisterError.from.Reads as makers_maker_error_from
 use Rattle.display.proofs.show.Reads as display_show
 use Rattle.lines.proofs.line_of.Reads as lines_line_of
 use Rattle.lines.proofs.text_after.Reads as lines_text_after
@@ -145,6 +153,8 @@ pub record Tight : Type 1 where
   pub image_write_image : AloneAndLent (λ κs e. e.1.0.now) image_write_image.Post image_write_image.Asked
   pub image_write_then_read : Alone image_write_then_read.Post image_write_then_read.Asked
   pub image_read_then_write : Alone image_read_then_write.Post image_read_then_write.Asked
+  pub image_image_error_from : Alone image_image_error_from.Post image_image_error_from.Asked
+  pub image_write_error_from : Alone image_write_error_from.Post image_write_error_from.Asked
   -- crate counting
   pub counting_next : AloneAndLent (λ κs e. e.0.now.0 ∷ []) counting_next.Post counting_next.Asked
   pub counting_advance : Lent (λ κs e. e.0.now ∷ []) counting_advance.Post counting_advance.Asked
@@ -176,6 +186,7 @@ pub record Tight : Type 1 where
   pub readout_whole_number : Alone readout_whole_number.Post readout_whole_number.Asked
   pub readout_line_number : Alone readout_line_number.Post readout_line_number.Asked
   pub readout_check_block : Alone readout_check_block.Post readout_check_block.Asked
+  pub readout_line_error_from : Alone readout_line_error_from.Post readout_line_error_from.Asked
   -- crate recorder
   pub recorder_start : Alone recorder_start.Post recorder_start.Asked
   pub recorder_sample : AloneAndLent (λ κs e. e.1.1.0.now) recorder_sample.Post recorder_sample.Asked
@@ -188,12 +199,17 @@ pub record Tight : Type 1 where
   pub recorder_read_record : AloneAndLent (λ κs e. e.1.1.1.0.now) recorder_read_record.Post recorder_read_record.Asked
   pub recorder_age_class : Alone recorder_age_class.Post recorder_age_class.Asked
   pub recorder_age_answer : Alone recorder_age_answer.Post recorder_age_answer.Asked
+  pub recorder_start_error_from : Alone recorder_start_error_from.Post recorder_start_error_from.Asked
+  pub recorder_readout_error_from_block : Alone recorder_readout_error_from_block.Post recorder_readout_error_from_block.Asked
+  pub recorder_readout_error_from_line : Alone recorder_readout_error_from_line.Post recorder_readout_error_from_line.Asked
+  pub recorder_readout_error_from_reading : Alone recorder_readout_error_from_reading.Post recorder_readout_error_from_reading.Asked
   -- crate registers
   pub registers_read_register : AloneAndLent (λ κs e. e.1.1.1.0.now) registers_read_register.Post registers_read_register.Asked
   pub registers_fleet_of : Alone registers_fleet_of.Post registers_fleet_of.Asked
   -- crate makers
   pub makers_give_list : Alone makers_give_list.Post makers_give_list.Asked
   pub makers_read_own : AloneAndLent (λ κs e. e.1.1.1.1.0.now) makers_read_own.Post makers_read_own.Asked
+  pub makers_maker_error_from : Alone makers_maker_error_from.Post makers_maker_error_from.Asked
   -- crate display
   pub display_show : AloneAndLent (λ κs e. e.1.1.1.0.now) display_show.Post display_show.Asked
   -- crate lines
